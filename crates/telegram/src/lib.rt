@@ -6,3 +6,4 @@ pub mod row;
 pub mod records;
 pub mod stage;
 pub mod progress;
+pub mod parts;

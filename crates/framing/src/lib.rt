@@ -1,0 +1,3 @@
+// Reading telegrams, whatever framing they come in.
+pub mod spelling;
+pub mod text;
