@@ -1,2 +1,4 @@
 pub mod Blanks
 pub mod Fairs
+pub mod Walks
+pub mod Turns

@@ -1,1 +1,4 @@
 pub mod Spell
+pub mod Walk
+pub mod Check
+pub mod Read

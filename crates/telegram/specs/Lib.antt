@@ -5,3 +5,4 @@ pub mod Catalogue
 pub mod Layout
 pub mod Follow
 pub mod Passing
+pub mod Source

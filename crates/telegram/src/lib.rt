@@ -7,3 +7,5 @@ pub mod records;
 pub mod stage;
 pub mod progress;
 pub mod parts;
+pub mod cursor;
+pub mod source;

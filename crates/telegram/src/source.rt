@@ -1,0 +1,25 @@
+// A telegram at hand, whose items are pulled one after the other.
+ghost use mathlib.Core.Path.{_≡_};
+ghost use mathlib.Core.List.{List};
+ghost use Rattle.telegram.specs.declared.cursor.Cursor.{Cursor as At};
+ghost use Rattle.telegram.specs.Source.{Telegram, Seen, Pulled, values};
+use crate::cursor::Cursor;
+use crate::item::Item;
+use crate::item::Placed;
+use crate::row::Row;
+
+pub trait Source {
+    ghost telegram: { Self → Telegram };
+
+    // The items from a cursor on.
+    ghost rest: { Self → At → List Seen };
+
+    fn row(&self) -> Row
+        ensures { λ r. ⌜ r ≡ telegram (now (self .entry)) .row ⌝ };
+
+    fn start(&self) -> Cursor
+        ensures { λ r. ⌜ values (rest (now (self .entry)) r) ≡ telegram (now (self .entry)) .items ⌝ };
+
+    fn next(&self, at: Cursor) -> Option<(Placed<Item<'_>>, Cursor)>
+        ensures { λ r. ⌜ Pulled (rest (now (self .entry))) at r ⌝ };
+}
