@@ -15,12 +15,12 @@ use Rattle.telegram.specs.declared.cursor.Cursor.{Cursor}
 use Rattle.telegram.specs.declared.refusal.Refusal.{Refusal}
 use Rattle.telegram.specs.declared.refusal.Reason.the-variants.{Size, Unknown}
 use Rattle.telegram.specs.Refusal.{reasonNumber}
-use Rattle.telegram.specs.Catalogue.{name, seek, rows}
+use Rattle.telegram.specs.Catalogue.{name, listed}
 use Rattle.telegram.specs.Layout.{Layout, layout, limit, weight, wanted, is-scan}
 use Rattle.telegram.specs.Source.{Telegram, Within, Seen, values, Tells}
 use Rattle.framing.specs.declared.head.Head.{Head}
 use Rattle.framing.specs.Spell.{Opened, holds, wrong, Opens, Find}
-use Rattle.framing.specs.Walk.{Ending, whole, halt, Walk, walk}
+use Rattle.framing.specs.Walk.{Ending, whole, halt, Walk, walk, left}
 
 -- what is read: the row, where the body begins and ends, where the head's span ends, and the items in order. The head's span begins where the body does
 pub record Reading : Type 0 where
@@ -47,7 +47,7 @@ word (b ∷ bs) =
 
 -- the row that a body's head names: a type of three letters, one blank, and a name up to the next blank or the end
 abbrev pub head : List ℕ → Option Row
-head body = cond (eqb (getD body 3 0) 32) (seek (take 3 body) (word (drop 4 body)) rows) None
+head body = cond (eqb (getD body 3 0) 32) (listed (take 3 body) (word (drop 4 body))) None
 
 abbrev pub without-blank : List ℕ → List ℕ
 without-blank [] = []
@@ -117,9 +117,20 @@ Keeps bs (refused n p) = (1 ≤ n) × (n ≤ 8)
 abbrev pub readingOf : (Cursor → List Seen) → Head → Reading
 readingOf left h = record { row = h .row; from = h .from; to = length (now (h .text)); behind = h .start .place; items = left (h .start) }
 
--- what reading answers: the head of what is accepted, with the input up to the body's end and the records of the optional parts; or the refusal
+-- the row that a head names, and how long it is
+abbrev pub Names : List ℕ → Option (Row × ℕ) → Type 0
+Names b None = head b ≡ None
+Names b (Some p) = (head b ≡ Some (p .0)) × (p .1 ≡ 4 + length (name (p .0))) × (p .1 ≤ length b)
+
+-- what a head answers of a text that ends where its body does: the outcome, and the records of the optional parts
+abbrev pub Heads : (Cursor → List Seen) → Outcome → Head → Type 0
+Heads left o h = (o ≡ accepted (readingOf left h)) × Tells (is-scan (h .row)) (layout (h .row)) (values (left (h .start))) (h .parts)
+
+abbrev pub Holds : Find → List ℕ → Outcome → Result Head Refusal → Type 0
+Holds find t o (Ok h) = (now (h .text) ≡ t) × Heads (left find t) o h
+Holds find t o (Err e) = o ≡ refusalOf e
+
+-- what reading answers: the head of what is accepted, with the input up to the body's end; or the refusal
 abbrev pub Reads : (List ℕ → Cursor → List Seen) → List ℕ → Outcome → Result Head Refusal → Type 0
-Reads left bs o (Ok h) =
-    (o ≡ accepted (readingOf (left (now (h .text))) h)) × (now (h .text) ≡ take (length (now (h .text))) bs)
-    × Tells (is-scan (h .row)) (layout (h .row)) (values (left (now (h .text)) (h .start))) (h .parts)
+Reads left bs o (Ok h) = (now (h .text) ≡ take (length (now (h .text))) bs) × Heads (left (now (h .text))) o h
 Reads left bs o (Err e) = o ≡ refusalOf e

@@ -4,3 +4,5 @@ pub mod text;
 pub mod head;
 pub mod walk;
 pub mod read;
+pub mod framing;
+pub mod framed;

@@ -83,3 +83,7 @@ called c n r = sameBytes n (name r) && sameBytes c (command r)
 abbrev pub seek : List ℕ → List ℕ → List Row → Option Row
 seek c n [] = None
 seek c n (r ∷ rs) = cond (called c n r) (Some r) (seek c n rs)
+
+-- the row of the catalogue with a type and a name
+unfoldable pub listed : List ℕ → List ℕ → Option Row
+listed c n = seek c n rows

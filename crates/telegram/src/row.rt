@@ -3,7 +3,7 @@ ghost use mathlib.Core.Path.{_≡_};
 ghost use mathlib.Core.List.{List};
 ghost use Prim.Native.Nat.{ℕ};
 ghost use Rattle.std.specs.shelf.Text.{sameBytes};
-ghost use Rattle.telegram.specs.Catalogue.{command, name, called, seek, rows};
+ghost use Rattle.telegram.specs.Catalogue.{command, name, called, listed};
 
 // A row goes by the three letters of its type and by what its name stands for.
 #[derive(Clone, Copy, PartialEq, Eq, Debug)]
@@ -122,7 +122,7 @@ impl Row {
 
     // The row with a type and a name, if the catalogue has it.
     pub fn find(command: &[u8], name: &[u8]) -> Option<Row>
-        ensures { λ r. ⌜ r ≡ seek (now (command .entry)) (now (name .entry)) rows ⌝ }
+        ensures { λ r. ⌜ r ≡ listed (now (command .entry)) (now (name .entry)) ⌝ }
     {
         for row in &ROWS {
             if row.answers_to(command, name) {
