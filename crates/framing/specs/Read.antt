@@ -134,3 +134,8 @@ Holds find t o (Err e) = o ≡ refusalOf e
 abbrev pub Reads : (List ℕ → Cursor → List Seen) → List ℕ → Outcome → Result Head Refusal → Type 0
 Reads left bs o (Ok h) = (now (h .text) ≡ take (length (now (h .text))) bs) × Heads (left (now (h .text))) o h
 Reads left bs o (Err e) = o ≡ refusalOf e
+
+-- what accepting answers: the framing, and what reading in it answers
+abbrev pub Accepts : {A F : Type 0} → (A → F) → (A → Head) → (F → List ℕ → Cursor → List Seen) → (F → List ℕ → Outcome) → F → List ℕ → Result A Refusal → Type 0
+Accepts framing-of head-of left reads f bs (Ok a) = (framing-of a ≡ f) × Reads (left f) bs (reads f bs) (Ok (head-of a))
+Accepts framing-of head-of left reads f bs (Err e) = Reads (left f) bs (reads f bs) (Err e)

@@ -6,3 +6,4 @@ pub mod walk;
 pub mod read;
 pub mod framing;
 pub mod framed;
+pub mod accepted;

@@ -1,0 +1,4 @@
+pub mod Patterns
+pub mod Sounds
+pub mod Changes
+pub mod Guards

@@ -1,0 +1,8 @@
+use Rattle.cola_b.proofs.Sounds.{binary-inside, binary-sound}
+use Rattle.cola_b.proofs.octets.OctetsSpelling.the-impl.Needs as need
+
+pub inside-law : need.inside-law
+inside-law = binary-inside
+
+pub sound-law : need.sound-law
+sound-law = binary-sound
