@@ -1,0 +1,5 @@
+pub mod Steps
+pub mod Bounds
+pub mod Sounds
+pub mod Insides
+pub mod Begins

@@ -1,0 +1,4 @@
+pub mod Digits
+pub mod Items
+pub mod Envelope
+pub mod Read
