@@ -11,6 +11,7 @@ const START: u8 = 0x02;
 
 const END: u8 = 0x03;
 
+// Whether a byte belongs to the envelope alone.
 fn is_mark(b: u8) -> bool
     ensures { λ r. ⌜ r ≡ marked b ⌝ }
 {

@@ -1,4 +1,4 @@
-// Items behind their blank.
+// Items, with the blank before them.
 ghost use mathlib.Core.Path.{_≡_};
 ghost use Prim.Native.Nat.{ℕ, _*_, _≤_};
 ghost use lib.Dec.{eqb};

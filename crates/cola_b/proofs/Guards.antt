@@ -23,15 +23,15 @@ sized bs = eqb (length bs) 0 || ltb 65536 (length bs)
 opened : (bs : List ℕ) (g : Reading) → reads-binary bs ≡ accepted g → (sized bs ≡ false) × ((from : ℕ) × ((to : ℕ) × (open-binary bs ≡ holds from to)))
 opened bs g e =
     let body : (o : Opened) → open-binary bs ≡ o → unwrapped find-binary true bs o ≡ accepted g → (from : ℕ) × ((to : ℕ) × (open-binary bs ≡ holds from to)) =
-        λ o. elim o as (λ o. open-binary bs ≡ o → unwrapped find-binary true bs o ≡ accepted g → (from : ℕ) × ((to : ℕ) × (open-binary bs ≡ holds from to))) [
-          holds from to ↦ λ h f. (from, (to, h))
-        | wrong n p ↦ λ h f. let z : _≡_ {A = ℕ} 0 1 = cc in absurd (omega arith)
-        ] in
+    λ o. elim o as (λ o. open-binary bs ≡ o → unwrapped find-binary true bs o ≡ accepted g → (from : ℕ) × ((to : ℕ) × (open-binary bs ≡ holds from to))) [
+      | holds from to ↦ λ h f. (from, (to, h))
+      | wrong n p ↦ λ h f. let z : _≡_ {A = ℕ} 0 1 = cc in absurd (omega arith)
+    ] in
     let go : (x : Bool) → sized bs ≡ x → cond x (refused 1 0) (unwrapped find-binary true bs (open-binary bs)) ≡ accepted g → (sized bs ≡ false) × ((from : ℕ) × ((to : ℕ) × (open-binary bs ≡ holds from to))) =
-        λ x. elim x as (λ x. sized bs ≡ x → cond x (refused 1 0) (unwrapped find-binary true bs (open-binary bs)) ≡ accepted g → (sized bs ≡ false) × ((from : ℕ) × ((to : ℕ) × (open-binary bs ≡ holds from to)))) [
-          true ↦ λ s f. let z : _≡_ {A = ℕ} 0 1 = cc in absurd (omega arith)
-        | false ↦ λ s f. (s, body (open-binary bs) refl f)
-        ] in
+    λ x. elim x as (λ x. sized bs ≡ x → cond x (refused 1 0) (unwrapped find-binary true bs (open-binary bs)) ≡ accepted g → (sized bs ≡ false) × ((from : ℕ) × ((to : ℕ) × (open-binary bs ≡ holds from to)))) [
+      | true ↦ λ s f. let z : _≡_ {A = ℕ} 0 1 = cc in absurd (omega arith)
+      | false ↦ λ s f. (s, body (open-binary bs) refl f)
+    ] in
     go (sized bs) refl e
 
 pub guarded : (bs : List ℕ) → All (λ b. b < 256) bs → Guarded bs

@@ -77,14 +77,13 @@ module _ (find : Find) (spare : Bool) (t : List ℕ) (from : ℕ) where
     all-found text p b parts is le checks =
         let start : Cursor = record { place = place; first = true; progress = p } in
         let same-items : starting find row t place .items ≡ left find t start = ap (λ w. w .items) (sym (begun find row t place p b)) in
-        let behind : length t - length (drop place t) ≡ place = omega (arith, length-drop place t) in
-        (
+        let behind : length t - length (drop place t) ≡ place = omega (arith, length-drop place t) in (
           is,
           (
             named ∙ ap (judged _) (checks .0)
-            ∙ ap (λ x. accepted (record { row = row; from = from; to = length t; behind = x; items = starting find row t place .items })) behind
-            ∙ ap (λ x. accepted (record { row = row; from = from; to = length t; behind = place; items = x })) same-items
-            ∙ ap (λ x. accepted (record { row = row; from = from; to = length x; behind = place; items = left find t start })) (sym is),
+                ∙ ap (λ x. accepted (record { row = row; from = from; to = length t; behind = x; items = starting find row t place .items })) behind
+                ∙ ap (λ x. accepted (record { row = row; from = from; to = length t; behind = place; items = x })) same-items
+                ∙ ap (λ x. accepted (record { row = row; from = from; to = length x; behind = place; items = left find t start })) (sym is),
             subst (λ x. Tells (is-scan row) (layout row) (values x) parts) same-items (checks .1),
           ),
         )

@@ -36,13 +36,13 @@ seek-named : (c n : List ℕ) (rs : List Row) (r : Row) → seek c n rs ≡ Some
 seek-named c n [] r e = let z : _≡_ {A = ℕ} 0 1 = cc in absurd (omega arith)
 seek-named c n (x ∷ rs) r e =
     let go : (b : Bool) → sameBytes n (name x) ≡ b → cond (b && sameBytes c (command x)) (Some x) (seek c n rs) ≡ Some r → n ≡ name r =
-        λ b. elim b as (λ b. sameBytes n (name x) ≡ b → cond (b && sameBytes c (command x)) (Some x) (seek c n rs) ≡ Some r → n ≡ name r) [
-          true ↦ λ s f. elim (sameBytes c (command x)) as (λ b. cond b (Some x) (seek c n rs) ≡ Some r → n ≡ name r) [
-              true ↦ λ f. let same : x ≡ r = cc in sameBytes-decides n (name x) .0 s ∙ ap name same
-            | false ↦ λ f. seek-named c n rs r f
-            ] f
-        | false ↦ λ s f. seek-named c n rs r f
-        ] in
+    λ b. elim b as (λ b. sameBytes n (name x) ≡ b → cond (b && sameBytes c (command x)) (Some x) (seek c n rs) ≡ Some r → n ≡ name r) [
+      | true ↦ λ s f. elim (sameBytes c (command x)) as (λ b. cond b (Some x) (seek c n rs) ≡ Some r → n ≡ name r) [
+        | true ↦ λ f. let same : x ≡ r = cc in sameBytes-decides n (name x) .0 s ∙ ap name same
+        | false ↦ λ f. seek-named c n rs r f
+      ] f
+      | false ↦ λ s f. seek-named c n rs r f
+    ] in
     go (sameBytes n (name x)) refl e
 
 listed-named : (c n : List ℕ) (r : Row) → listed c n ≡ Some r → n ≡ name r

@@ -51,10 +51,10 @@ module _ (find : Find) (sound : Sound find) where
   more-well : (n a b : ℕ) (l : Layout) (r : ℕ) (q : State) (v : Value) (x : Walk) → wanted l ≡ Some (want v) → Good v → advance l r (number v) ≡ Some q → a ≤ b → b ≤ n → Ends-well b n (q .todo) (q .room) (x .items) (x .ending) → Ends-well a n l r (record { value = v; from = a; to = b } ∷ x .items) (x .ending)
   more-well n a b l r q v x w good ad le len h =
       let go : (e : Ending) → Ends-well b n (q .todo) (q .room) (x .items) e → Ends-well a n l r (record { value = v; from = a; to = b } ∷ x .items) e =
-          λ e. elim e as (λ e. Ends-well b n (q .todo) (q .room) (x .items) e → Ends-well a n l r (record { value = v; from = a; to = b } ∷ x .items) e) [
-            whole ↦ λ h. ((w, good, subst (λ o. When o (λ s. Fits (s .todo) (s .room) (values (x .items)))) (sym ad) (h .0)), (refl, le, len, h .1))
-          | halt k p ↦ λ h. h
-          ] in
+      λ e. elim e as (λ e. Ends-well b n (q .todo) (q .room) (x .items) e → Ends-well a n l r (record { value = v; from = a; to = b } ∷ x .items) e) [
+        | whole ↦ λ h. ((w, good, subst (λ o. When o (λ s. Fits (s .todo) (s .room) (values (x .items)))) (sym ad) (h .0)), (refl, le, len, h .1))
+        | halt k p ↦ λ h. h
+      ] in
       go (x .ending) h
 
   pub walk-well : (n t : ℕ) (first : Bool) (l : Layout) (r : ℕ) (bs : List ℕ) → weight l + r ≤ t → length bs ≤ n → Ends-well (n - length bs) n l r (walk find t n first l r bs .items) (walk find t n first l r bs .ending)
@@ -64,25 +64,25 @@ module _ (find : Find) (sound : Sound find) where
   walk-well n (suc t) first l r bs h len =
       let Goal : Type 0 = Ends-well (n - length bs) n l r (walk find (suc t) n first l r bs .items) (walk find (suc t) n first l r bs .ending) in
       let fits : (w : Want) → wanted l ≡ Some w → (v : Value) (rest : List ℕ) → find first w bs ≡ found v rest → (o : Option State) → advance l r (number v) ≡ o → Goal =
-          λ w e v rest s o. elim o as (λ o. advance l r (number v) ≡ o → Goal) [
-            None ↦ λ a. halt-well n (n - length bs) l r _ _ _ (omega arith, omega arith) (sym (turn-unfit find n first l r bs (suc t) w v rest (omega arith) e s a))
-          | Some q ↦ λ a.
-              let f = falls l r (number v) q a in
-              let fair = subst (Fair w bs) s (sound first w bs) in
-              let x = walk find t n false (q .todo) (q .room) rest in
-              subst (λ y. Ends-well (n - length bs) n l r (y .items) (y .ending)) (sym (turn-more find n first l r bs t w v rest q e s a))
-              (more-well n (n - length bs) (n - length rest) l r q v x (e ∙ ap Some (sym (fair .0))) (fair .1) a (omega (arith, fair .2)) (omega arith) (walk-well n t false (q .todo) (q .room) rest (omega arith) (omega (arith, fair .2))))
-          ] in
+      λ w e v rest s o. elim o as (λ o. advance l r (number v) ≡ o → Goal) [
+        | None ↦ λ a. halt-well n (n - length bs) l r _ _ _ (omega arith, omega arith) (sym (turn-unfit find n first l r bs (suc t) w v rest (omega arith) e s a))
+        | Some q ↦ λ a.
+            let f = falls l r (number v) q a in
+            let fair = subst (Fair w bs) s (sound first w bs) in
+            let x = walk find t n false (q .todo) (q .room) rest in
+            subst (λ y. Ends-well (n - length bs) n l r (y .items) (y .ending)) (sym (turn-more find n first l r bs t w v rest q e s a))
+            (more-well n (n - length bs) (n - length rest) l r q v x (e ∙ ap Some (sym (fair .0))) (fair .1) a (omega (arith, fair .2)) (omega arith) (walk-well n t false (q .todo) (q .room) rest (omega arith) (omega (arith, fair .2))))
+      ] in
       let finds : (w : Want) → wanted l ≡ Some w → (x : Spelt) → find first w bs ≡ x → Goal =
-          λ w e x. elim x as (λ x. find first w bs ≡ x → Goal) [
-            faulty f ↦ λ s. halt-well n (n - length bs) l r _ _ _ (fault-number f) (sym (turn-fault find n first l r bs (suc t) w f (omega arith) e s))
-          | found v rest ↦ λ s. fits w e v rest s (advance l r (number v)) refl
-          ] in
+      λ w e x. elim x as (λ x. find first w bs ≡ x → Goal) [
+        | faulty f ↦ λ s. halt-well n (n - length bs) l r _ _ _ (fault-number f) (sym (turn-fault find n first l r bs (suc t) w f (omega arith) e s))
+        | found v rest ↦ λ s. fits w e v rest s (advance l r (number v)) refl
+      ] in
       let asks : (o : Option Want) → wanted l ≡ o → Goal =
-          λ o. elim o as (λ o. wanted l ≡ o → Goal) [
-            None ↦ λ e. subst (λ x. Ends-well (n - length bs) n l r (x .items) (x .ending)) (sym (turn-end find n first l r bs (suc t) e)) (closed-well n l r bs e)
-          | Some w ↦ λ e. finds w e (find first w bs) refl
-          ] in
+      λ o. elim o as (λ o. wanted l ≡ o → Goal) [
+        | None ↦ λ e. subst (λ x. Ends-well (n - length bs) n l r (x .items) (x .ending)) (sym (turn-end find n first l r bs (suc t) e)) (closed-well n l r bs e)
+        | Some w ↦ λ e. finds w e (find first w bs) refl
+      ] in
       asks (wanted l) refl
 
 -- Spans that follow one another join.
@@ -144,11 +144,11 @@ module _ (opens : Opens) (spare : Bool) (find : Find) (inside : Inside opens) (s
 pub keeps-in : (opens : Opens) (spare : Bool) (find : Find) → Inside opens → Sound find → (bs : List ℕ) → Keeps bs (reads opens spare find bs)
 keeps-in opens spare find inside sound bs =
     let go : (x : Bool) → (eqb (length bs) 0 || ltb 65536 (length bs)) ≡ x → Keeps bs (cond x (refused 1 0) (unwrapped find spare bs (opens bs))) =
-        λ x. elim x as (λ x. (eqb (length bs) 0 || ltb 65536 (length bs)) ≡ x → Keeps bs (cond x (refused 1 0) (unwrapped find spare bs (opens bs)))) [
-          true ↦ λ e. (omega arith, omega arith)
-        | false ↦ λ e.
-            let p = or-parts _ _ e in
-            let some : length bs ≡ 0 → ⊥ = eqb-false (length bs) 0 (p .0) in
-            unwrapped-keeps opens spare find inside sound bs (omega (arith, some)) (ltb-false 65536 (length bs) (p .1)) (opens bs) (inside bs)
-        ] in
+    λ x. elim x as (λ x. (eqb (length bs) 0 || ltb 65536 (length bs)) ≡ x → Keeps bs (cond x (refused 1 0) (unwrapped find spare bs (opens bs)))) [
+      | true ↦ λ e. (omega arith, omega arith)
+      | false ↦ λ e.
+          let p = or-parts _ _ e in
+          let some : length bs ≡ 0 → ⊥ = eqb-false (length bs) 0 (p .0) in
+          unwrapped-keeps opens spare find inside sound bs (omega (arith, some)) (ltb-false 65536 (length bs) (p .1)) (opens bs) (inside bs)
+    ] in
     go _ refl

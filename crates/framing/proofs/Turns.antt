@@ -55,12 +55,11 @@ module _ (find : Find) (t : List ℕ) (row : Row) (start : ℕ) (p : Progress) (
     passing-all w l =
         let e = on-end find t at (sym w) in
         let none : values (onward find t at .items) ≡ [] = ap (λ w. values (w .items)) e ∙ ap values (closed-items (length t) _) in
-        let tells = told (scanning (p .stage)) (todo (p .stage)) (values (onward find t from .items)) (values (onward find t at .items)) (at .progress .stage) (at .progress .room) parts (h .scan) (sym w) none (h .tale) in
-        (
+        let tells = told (scanning (p .stage)) (todo (p .stage)) (values (onward find t from .items)) (values (onward find t at .items)) (at .progress .stage) (at .progress .room) parts (h .scan) (sym w) none (h .tale) in (
           ap (λ w. w .ending) (sym begins) ∙ sym (h .ending) ∙ ap (λ w. w .ending) e ∙ closed-none t (at .place) l,
           subst (λ x. Tells (is-scan row) (layout row) (values (x .items)) parts) begins
-          (subst (λ x. Tells x (layout row) (values (onward find t from .items)) parts) (b .lands .scan)
-          (subst (λ x. Tells (scanning (p .stage)) x (values (onward find t from .items)) parts) (b .lands .at) tells)),
+              (subst (λ x. Tells x (layout row) (values (onward find t from .items)) parts) (b .lands .scan)
+              (subst (λ x. Tells (scanning (p .stage)) x (values (onward find t from .items)) parts) (b .lands .at) tells)),
         )
 
 pub passing-more : (find : Find) (t : List ℕ) (from at next : Cursor) (parts after : Parts) → Passing find t from at parts → Passed find t at parts next after → Passing find t from next after
@@ -72,9 +71,9 @@ passing-more find t from at next parts after h x =
       ending = sym (ap (λ w. w .ending) (x .goes-on)) ∙ h .ending;
       scan = kept-scan (at .progress .stage) _ (next .progress .stage) (x .goes) ∙ h .scan;
       tale =
-        subst (Tale (scanning (from .progress .stage)) (todo (from .progress .stage)) all (values (onward find t next .items)) (next .progress .stage) (next .progress .room)) (sym (x .has))
-        (turn (todo (from .progress .stage)) all (values (onward find t next .items)) (at .progress .room) (next .progress .room) parts (next .progress .stage) (scanning (from .progress .stage)) (at .progress .stage) (x .item) (h .scan) (x .asked) (x .stepped) (x .goes)
-        (subst (λ l. Tale (scanning (from .progress .stage)) (todo (from .progress .stage)) all l (at .progress .stage) (at .progress .room) parts) here (h .tale)));
+          subst (Tale (scanning (from .progress .stage)) (todo (from .progress .stage)) all (values (onward find t next .items)) (next .progress .stage) (next .progress .room)) (sym (x .has))
+          (turn (todo (from .progress .stage)) all (values (onward find t next .items)) (at .progress .room) (next .progress .room) parts (next .progress .stage) (scanning (from .progress .stage)) (at .progress .stage) (x .item) (h .scan) (x .asked) (x .stepped) (x .goes)
+          (subst (λ l. Tale (scanning (from .progress .stage)) (todo (from .progress .stage)) all l (at .progress .stage) (at .progress .room) parts) here (h .tale)));
     }
 
 pub passed-less : (find : Find) (t : List ℕ) (at next : Cursor) (parts after : Parts) → Passed find t at parts next after → weight (todo (next .progress .stage)) + next .progress .room < weight (todo (at .progress .stage)) + at .progress .room

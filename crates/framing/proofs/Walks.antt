@@ -52,24 +52,24 @@ steady find n (suc t) zero first l r bs h k = let e = light l (omega arith) in t
 steady find n (suc t) (suc u) first l r bs h k =
     let Goal : Type 0 = walk find (suc t) n first l r bs ≡ walk find (suc u) n first l r bs in
     let fits : (w : Want) → wanted l ≡ Some w → (v : Value) (rest : List ℕ) → find first w bs ≡ found v rest → (o : Option State) → advance l r (number v) ≡ o → Goal =
-        λ w e v rest s o. elim o as (λ o. advance l r (number v) ≡ o → Goal) [
-          None ↦ λ a. turn-unfit find n first l r bs (suc t) w v rest (omega arith) e s a ∙ sym (turn-unfit find n first l r bs (suc u) w v rest (omega arith) e s a)
-        | Some q ↦ λ a.
-            let f = falls l r (number v) q a in
-            turn-more find n first l r bs t w v rest q e s a
-            ∙ ap (more (seen n v bs rest)) (steady find n t u false (q .todo) (q .room) rest (omega arith) (omega arith))
-            ∙ sym (turn-more find n first l r bs u w v rest q e s a)
-        ] in
+    λ w e v rest s o. elim o as (λ o. advance l r (number v) ≡ o → Goal) [
+      | None ↦ λ a. turn-unfit find n first l r bs (suc t) w v rest (omega arith) e s a ∙ sym (turn-unfit find n first l r bs (suc u) w v rest (omega arith) e s a)
+      | Some q ↦ λ a.
+          let f = falls l r (number v) q a in
+          turn-more find n first l r bs t w v rest q e s a
+          ∙ ap (more (seen n v bs rest)) (steady find n t u false (q .todo) (q .room) rest (omega arith) (omega arith))
+          ∙ sym (turn-more find n first l r bs u w v rest q e s a)
+    ] in
     let finds : (w : Want) → wanted l ≡ Some w → (x : Spelt) → find first w bs ≡ x → Goal =
-        λ w e x. elim x as (λ x. find first w bs ≡ x → Goal) [
-          faulty f ↦ λ s. turn-fault find n first l r bs (suc t) w f (omega arith) e s ∙ sym (turn-fault find n first l r bs (suc u) w f (omega arith) e s)
-        | found v rest ↦ λ s. fits w e v rest s (advance l r (number v)) refl
-        ] in
+    λ w e x. elim x as (λ x. find first w bs ≡ x → Goal) [
+      | faulty f ↦ λ s. turn-fault find n first l r bs (suc t) w f (omega arith) e s ∙ sym (turn-fault find n first l r bs (suc u) w f (omega arith) e s)
+      | found v rest ↦ λ s. fits w e v rest s (advance l r (number v)) refl
+    ] in
     let asks : (o : Option Want) → wanted l ≡ o → Goal =
-        λ o. elim o as (λ o. wanted l ≡ o → Goal) [
-          None ↦ λ e. turn-end find n first l r bs (suc t) e ∙ sym (turn-end find n first l r bs (suc u) e)
-        | Some w ↦ λ e. finds w e (find first w bs) refl
-        ] in
+    λ o. elim o as (λ o. wanted l ≡ o → Goal) [
+      | None ↦ λ e. turn-end find n first l r bs (suc t) e ∙ sym (turn-end find n first l r bs (suc u) e)
+      | Some w ↦ λ e. finds w e (find first w bs) refl
+    ] in
     asks (wanted l) refl
 
 -- a turn at a cursor

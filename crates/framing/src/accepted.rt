@@ -40,7 +40,25 @@ pub impl<'f, 'b, F: Framing> Source for Accepted<'f, 'b, F> as AcceptedSource {
     }
 }
 
+// What stands from a place on.
+fn tail(text: &[u8], from: usize) -> &[u8]
+    ensures { λ r. ⌜ now r ≡ drop from (now (text .entry)) ⌝ }
+{
+    if from < text.len() {
+        &text[from..]
+    } else {
+        &[]
+    }
+}
+
 impl<'f, 'b, F: Framing> Accepted<'f, 'b, F> {
+    // The body, as a part of the input.
+    pub fn body(&self) -> &'b [u8]
+        ensures { λ r. ⌜ now r ≡ drop (now (self .entry) .head .from) (now (now (self .entry) .head .text)) ⌝ }
+    {
+        tail(self.head.text, self.head.from)
+    }
+
     // The optional parts of scan data; none of them in any other telegram.
     pub fn parts(&self) -> Parts<'b>
         ensures { λ r. ⌜ r ≡ now (self .entry) .head .parts ⌝ }
@@ -54,12 +72,19 @@ impl<'f, 'b, F: Framing> Accepted<'f, 'b, F> {
         ensures place { λ r. ⌜ r .place ≡ now (self .entry) .head .from ⌝ }
         ensures end { λ r. ⌜ r .end ≡ now (self .entry) .head .start .place ⌝ }
     {
-        Placed { value: self.head.row, place: self.head.from, end: self.head.start.place }
+        Placed {
+            value: self.head.row,
+            place: self.head.from,
+            end: self.head.start.place,
+        }
     }
 }
 
 // Reads bytes in a framing.
-pub fn accept<'f, 'b, F: Framing>(framing: &'f F, bytes: &'b [u8]) -> Result<Accepted<'f, 'b, F>, Refusal>
+pub fn accept<'f, 'b, F: Framing>(
+    framing: &'f F,
+    bytes: &'b [u8],
+) -> Result<Accepted<'f, 'b, F>, Refusal>
     ensures answer { λ r. ⌜ Accepts (λ a. now (a .framing)) (λ a. a .head) (F·Meaning .left) (F·Meaning .reads) (now (framing .entry)) (now (bytes .entry)) r ⌝ }
     ensures keeps { λ _. ⌜ Keeps (now (bytes .entry)) (F·Meaning .reads (now (framing .entry)) (now (bytes .entry))) ⌝ }
 {

@@ -1,9 +1,9 @@
 // Reading telegrams, whatever framing they come in.
+pub mod accepted;
+pub mod framed;
+pub mod framing;
+pub mod head;
+pub mod read;
 pub mod spelling;
 pub mod text;
-pub mod head;
 pub mod walk;
-pub mod read;
-pub mod framing;
-pub mod framed;
-pub mod accepted;

@@ -55,7 +55,11 @@ fn after_blank<S: Spelling>(text: &[u8], row: Row, at: usize) -> usize
     if !S::spares_blank() || Progress::new(row).want().is_some() {
         return at;
     }
-    if at < text.len() && text[at] == b' ' { at + 1 } else { at }
+    if at < text.len() && text[at] == b' ' {
+        at + 1
+    } else {
+        at
+    }
 }
 
 // The telegram in a text that ends where its body does.
@@ -64,12 +68,25 @@ fn read_body<'b, S: Spelling>(text: &'b [u8], from: usize) -> Result<Head<'b>, R
     ensures { λ r. ⌜ Holds (S·Spelling .finds) (now (text .entry)) (headed (S·Spelling .finds) (S·Spelling .spare) (now (text .entry)) from (head (drop from (now (text .entry))))) r ⌝ }
 {
     let Some((row, n)) = row_of(&text[from..]) else {
-        return Err(Refusal { reason: Reason::Unknown, place: from });
+        return Err(Refusal {
+            reason: Reason::Unknown,
+            place: from,
+        });
     };
     let place = after_blank::<S>(text, row, from + n);
     let parts = check::<S>(text, row, place)?;
-    let start = Cursor { place, first: true, progress: Progress::new(row) };
-    Ok(Head { text, row, from, start, parts })
+    let start = Cursor {
+        place,
+        first: true,
+        progress: Progress::new(row),
+    };
+    Ok(Head {
+        text,
+        row,
+        from,
+        start,
+        parts,
+    })
 }
 
 // What bytes come to.
@@ -77,7 +94,10 @@ pub fn read<'b, S: Spelling>(bytes: &'b [u8]) -> Result<Head<'b>, Refusal>
     ensures { λ r. ⌜ Reads (left (S·Spelling .finds)) (now (bytes .entry)) (reads (S·Spelling .opens) (S·Spelling .spare) (S·Spelling .finds) (now (bytes .entry))) r ⌝ }
 {
     if bytes.is_empty() || bytes.len() > LONGEST {
-        return Err(Refusal { reason: Reason::Size, place: 0 });
+        return Err(Refusal {
+            reason: Reason::Size,
+            place: 0,
+        });
     }
     let Extent { from, to } = S::open(bytes)?;
     read_body::<S>(&bytes[0..to], from)

@@ -37,7 +37,12 @@ pub trait Spelling {
         ensures { λ r. ⌜ r ≡ spare ⌝ };
 
     // The item at a place, with the place behind it. `text` is the input up to the body's end; `first` says that no item came before.
-    fn find<'b>(first: bool, want: Want, text: &'b [u8], at: usize) -> Result<(Item<'b>, usize), Fault>
+    fn find<'b>(
+        first: bool,
+        want: Want,
+        text: &'b [u8],
+        at: usize,
+    ) -> Result<(Item<'b>, usize), Fault>
         requires { ⌜ at ≤ length (now text) ⌝ }
         ensures { λ r. ⌜ Finds (now (text .entry)) (finds first want (drop at (now (text .entry)))) r ⌝ };
 }

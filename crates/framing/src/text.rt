@@ -2,18 +2,27 @@
 ghost use mathlib.Core.Path.{_≡_};
 ghost use Prim.Native.Nat.{ℕ, _+_, _≤_};
 ghost use lib.ListN.{length, drop};
-ghost use Rattle.telegram.specs.Value.{printable};
+ghost use Rattle.telegram.specs.Value.{printable, textual};
 ghost use Rattle.framing.specs.Spell.{Finds, text-of};
 use telegram::item::Item;
 use telegram::refusal::Fault;
+
+// Whether a byte may stand in a text.
+fn is_textual(b: u8) -> bool
+    ensures { λ r. ⌜ r ≡ textual b ⌝ }
+{
+    match b {
+        0x20..=0x7e => true,
+        _ => false,
+    }
+}
 
 fn all_printable(bytes: &[u8]) -> bool
     ensures { λ r. ⌜ r ≡ printable (now (bytes .entry)) ⌝ }
 {
     for b in bytes {
-        match *b {
-            0x20..=0x7e => {}
-            _ => return false,
+        if !is_textual(*b) {
+            return false;
         }
     }
     true

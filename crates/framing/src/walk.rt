@@ -2,6 +2,7 @@
 ghost use mathlib.Core.Path.{_≡_};
 ghost use mathlib.Core.Bool.{true};
 ghost use Prim.Native.Nat.{ℕ, _≤_};
+ghost use lib.Dec.{ltb};
 ghost use lib.ListN.{length, drop};
 ghost use Rattle.std.specs.declared.option.Option.the-variants.{Some};
 ghost use Rattle.telegram.specs.Layout.{wanted};
@@ -21,7 +22,12 @@ use telegram::row::Row;
 use telegram::stage::Progress;
 
 // One item more: the cursor behind it, and the optional parts with it.
-fn pass<'b, S: Spelling>(text: &'b [u8], at: Cursor, want: Want, parts: Parts<'b>) -> Result<(Cursor, Parts<'b>), Refusal>
+fn pass<'b, S: Spelling>(
+    text: &'b [u8],
+    at: Cursor,
+    want: Want,
+    parts: Parts<'b>,
+) -> Result<(Cursor, Parts<'b>), Refusal>
     requires { ⌜ at .place ≤ length (now text) ⌝ }
     requires { ⌜ Some want ≡ wanted (todo (at .progress .stage)) ⌝ }
     ensures { λ r. ⌜ Passes (S·Spelling .finds) (now (text .entry)) at (parts .entry) r ⌝ }
@@ -30,12 +36,32 @@ fn pass<'b, S: Spelling>(text: &'b [u8], at: Cursor, want: Want, parts: Parts<'b
     let progress = at.progress;
     let (item, end) = match S::find(at.first, want, text, place) {
         Ok(found) => found,
-        Err(fault) => return Err(Refusal { reason: fault.reason(), place }),
+        Err(fault) => return Err(Refusal {
+            reason: fault.reason(),
+            place,
+        }),
     };
     match progress.next(item.number()) {
-        Some(after) => Ok((Cursor { place: end, first: false, progress: after }, parts.note(progress.stage, item))),
-        None => Err(Refusal { reason: Reason::Limit, place }),
+        Some(after) => Ok((
+            Cursor {
+                place: end,
+                first: false,
+                progress: after,
+            },
+            parts.note(progress.stage, item),
+        )),
+        None => Err(Refusal {
+            reason: Reason::Limit,
+            place,
+        }),
     }
+}
+
+// Whether bytes are left over from a place on.
+fn bytes_left(text: &[u8], place: usize) -> bool
+    ensures { λ r. ⌜ r ≡ ltb place (length (now (text .entry))) ⌝ }
+{
+    place < text.len()
 }
 
 // Whether the items of a text, from a place on, are all that a row's layout wants and nothing else; and the optional parts.
@@ -43,7 +69,11 @@ pub fn check<'b, S: Spelling>(text: &'b [u8], row: Row, start: usize) -> Result<
     requires { ⌜ start ≤ length (now text) ⌝ }
     ensures { λ r. ⌜ Checks (S·Spelling .finds) row (now (text .entry)) start r ⌝ }
 {
-    let mut at = Cursor { place: start, first: true, progress: Progress::new(row) };
+    let mut at = Cursor {
+        place: start,
+        first: true,
+        progress: Progress::new(row),
+    };
     let mut parts = Parts::new();
     loop {
         let Some(want) = at.progress.want() else {
@@ -53,8 +83,11 @@ pub fn check<'b, S: Spelling>(text: &'b [u8], row: Row, start: usize) -> Result<
         at = next;
         parts = noted;
     }
-    if at.place < text.len() {
-        return Err(Refusal { reason: Reason::Rest, place: at.place });
+    if bytes_left(text, at.place) {
+        return Err(Refusal {
+            reason: Reason::Rest,
+            place: at.place,
+        });
     }
     Ok(parts)
 }
@@ -64,7 +97,11 @@ fn within(text: &[u8], place: usize) -> usize
     ensures same { λ r. ⌜ drop r (now (text .entry)) ≡ drop place (now (text .entry)) ⌝ }
     ensures inside { λ r. ⌜ r ≤ length (now (text .entry)) ⌝ }
 {
-    if place <= text.len() { place } else { text.len() }
+    if place <= text.len() {
+        place
+    } else {
+        text.len()
+    }
 }
 
 // The item at a cursor, and the cursor of the next one.
@@ -75,7 +112,14 @@ pub fn next<'b, S: Spelling>(text: &'b [u8], at: Cursor) -> Option<(Placed<Item<
     let want = at.progress.want()?;
     match S::find(at.first, want, text, place) {
         Ok((value, end)) => match at.progress.next(value.number()) {
-            Some(progress) => Some((Placed { value, place, end }, Cursor { place: end, first: false, progress })),
+            Some(progress) => Some((
+                Placed { value, place, end },
+                Cursor {
+                    place: end,
+                    first: false,
+                    progress,
+                },
+            )),
             None => None,
         },
         Err(_) => None,

@@ -1,11 +1,11 @@
 // Telegrams: kinds and items, refusals, the catalogue, and the layout of every row of it.
-pub mod kind;
+pub mod cursor;
 pub mod item;
+pub mod kind;
+pub mod parts;
+pub mod progress;
+pub mod records;
 pub mod refusal;
 pub mod row;
-pub mod records;
-pub mod stage;
-pub mod progress;
-pub mod parts;
-pub mod cursor;
 pub mod source;
+pub mod stage;

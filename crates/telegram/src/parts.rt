@@ -19,16 +19,36 @@ impl<'a> Parts<'a> {
     pub fn new() -> Parts<'a>
         ensures { λ r. ⌜ r ≡ no-parts ⌝ }
     {
-        Parts { position: None, name: None, comment: None, time: None }
+        Parts {
+            position: None,
+            name: None,
+            comment: None,
+            time: None,
+        }
     }
 
     fn labelled(self, label: Label, text: Option<&'a [u8]>) -> Parts<'a>
         ensures { λ r. ⌜ r ≡ with-label label (text .entry) (self .entry) ⌝ }
     {
-        let Parts { position, name, comment, time } = self;
+        let Parts {
+            position,
+            name,
+            comment,
+            time,
+        } = self;
         match label {
-            Label::Name => Parts { position, name: text, comment, time },
-            Label::Comment => Parts { position, name, comment: text, time },
+            Label::Name => Parts {
+                position,
+                name: text,
+                comment,
+                time,
+            },
+            Label::Comment => Parts {
+                position,
+                name,
+                comment: text,
+                time,
+            },
         }
     }
 
@@ -36,18 +56,43 @@ impl<'a> Parts<'a> {
         requires { ⌜ Fitting (wanted (in-optional stage)) (number (valueOf item)) ⌝ }
         ensures { λ r. ⌜ r ≡ noted-in stage (item .entry) (self .entry) ⌝ }
     {
-        let Parts { position, name, comment, time } = self;
+        let Parts {
+            position,
+            name,
+            comment,
+            time,
+        } = self;
         let value = item.number();
         match stage {
-            OptionalStage::PositionFlag => Parts { position: None, name, comment, time },
-            OptionalStage::InPosition(PositionField::SendsName, so_far) => Parts { position: Some(set_field(PositionField::SendsName, so_far, value)), name, comment, time },
+            OptionalStage::PositionFlag => Parts {
+                position: None,
+                name,
+                comment,
+                time,
+            },
+            OptionalStage::InPosition(PositionField::SendsName, so_far) => Parts {
+                position: Some(set_field(PositionField::SendsName, so_far, value)),
+                name,
+                comment,
+                time,
+            },
             OptionalStage::LabelFlag(label) => self.labelled(label, None),
             OptionalStage::LabelText(label, _) => match item {
                 Item::Text(text) => self.labelled(label, Some(text)),
                 _ => self,
             },
-            OptionalStage::TimeFlag => Parts { position, name, comment, time: None },
-            OptionalStage::InTime(TimeField::Microsecond, so_far) => Parts { position, name, comment, time: Some(set_hand(TimeField::Microsecond, so_far, value)) },
+            OptionalStage::TimeFlag => Parts {
+                position,
+                name,
+                comment,
+                time: None,
+            },
+            OptionalStage::InTime(TimeField::Microsecond, so_far) => Parts {
+                position,
+                name,
+                comment,
+                time: Some(set_hand(TimeField::Microsecond, so_far, value)),
+            },
             _ => self,
         }
     }

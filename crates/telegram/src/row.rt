@@ -82,8 +82,10 @@ impl Row {
     {
         match self {
             Row::SsnScanData => b"sSN",
-            Row::SraScanData | Row::SraDeviceState | Row::SraSensorState | Row::SraDeviceIdent => b"sRA",
-            Row::SrnScanData | Row::SrnDeviceState | Row::SrnSensorState | Row::SrnDeviceIdent => b"sRN",
+            Row::SraScanData | Row::SraDeviceState | Row::SraSensorState | Row::SraDeviceIdent =>
+                b"sRA",
+            Row::SrnScanData | Row::SrnDeviceState | Row::SrnSensorState | Row::SrnDeviceIdent =>
+                b"sRN",
             Row::SenScanData => b"sEN",
             Row::SeaScanData => b"sEA",
             Row::SmnRun | Row::SmnSetAccessMode | Row::SmnStoreAll | Row::SmnResetOutputs => b"sMN",
@@ -98,7 +100,11 @@ impl Row {
         ensures { λ r. ⌜ now r ≡ name self ⌝ }
     {
         match self {
-            Row::SsnScanData | Row::SraScanData | Row::SrnScanData | Row::SenScanData | Row::SeaScanData => b"LMDscandata",
+            Row::SsnScanData
+            | Row::SraScanData
+            | Row::SrnScanData
+            | Row::SenScanData
+            | Row::SeaScanData => b"LMDscandata",
             Row::SmnRun | Row::SanRun => b"Run",
             Row::SmnSetAccessMode | Row::SanSetAccessMode => b"SetAccessMode",
             Row::SmnStoreAll | Row::SanStoreAll => b"mEEwriteall",

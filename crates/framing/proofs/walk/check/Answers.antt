@@ -1,5 +1,5 @@
 use mathlib.Core.Path.{_≡_, refl, sym, ap, subst, _∙_}
-use native.Mathlib.Omega.{arith}
+use Rattle.std.proofs.shelf.Tests.{ltb-true, ltb-false}
 use Rattle.std.proofs.shelf.Results.{err-from-errBy}
 use Rattle.framing.proofs.Turns.{passing-none, passing-more, passing-fault, passing-rest, passing-all, passed-less}
 use Rattle.framing.proofs.walk.check.Needs as need
@@ -21,8 +21,8 @@ returns-in-Break-next g c =
     let p = err-from-errBy (c .from-residual .result) (c .from-residual .ensures .1) in
     rw (p .1, p .2) (passing-fault (g .S·Spelling .finds) (c .args .text .now) (c .args .row) (c .args .start) (c .new .result) (c .new .ensures) (c .loop-want .at) _ (c .loop-want .inv) _ _ (c .in-Break-next .ensures tt))
 
-pub returns-then-at-text : need.returns-then-at-text
-returns-then-at-text g c = passing-rest (g .S·Spelling .finds) (c .args .text .now) (c .args .row) (c .args .start) (c .new .result) (c .new .ensures) (c .loop-want .at) _ (c .loop-want .inv) (c .in-rest .ensures tt) (omega arith)
+pub returns-then-bytes-left : need.returns-then-bytes-left
+returns-then-bytes-left g c = passing-rest (g .S·Spelling .finds) (c .args .text .now) (c .args .row) (c .args .start) (c .new .result) (c .new .ensures) (c .loop-want .at) _ (c .loop-want .inv) (c .in-rest .ensures tt) (ltb-true _ _ (sym (c .if-bytes-left .ensures tt)))
 
 pub returns : need.returns
-returns g c = passing-all (g .S·Spelling .finds) (c .args .text .now) (c .args .row) (c .args .start) (c .new .result) (c .new .ensures) (c .loop-want .at) _ (c .loop-want .inv) (c .in-rest .ensures tt) (omega arith)
+returns g c = passing-all (g .S·Spelling .finds) (c .args .text .now) (c .args .row) (c .args .start) (c .new .result) (c .new .ensures) (c .loop-want .at) _ (c .loop-want .inv) (c .in-rest .ensures tt) (ltb-false _ _ (sym (c .if-bytes-left .ensures tt)))

@@ -12,8 +12,7 @@ returns-in-Some c =
     let o = c .in-Optional .stage in
     let q = c .in-Some .stage in
     let v = c .args .value in
-    let r = c .args .self .room in
-    (
+    let r = c .args .self .room in (
       ap (λ s. advance (todo s) r v) (c .in-Optional .is) ∙ onward-ways o r v ∙ ap (arrived r) (sym (c .in-Some .ensures tt)),
       subst (λ s. Goes s v (Optional q)) (sym (c .in-Optional .is)) (subst (λ x. Reaches x (Optional q)) (c .in-Some .ensures tt) refl),
     )
