@@ -13,17 +13,17 @@ use Rattle.std.specs.declared.option.Option.{Option}
 use Rattle.std.specs.declared.option.Option.the-variants.{Some, None}
 use Rattle.std.specs.declared.result.Result.the-variants.{Ok, Err}
 use Rattle.telegram.specs.declared.item.Want.{Want}
-use Rattle.telegram.specs.declared.cursor.Cursor.{Cursor}
+use Rattle.layout.specs.declared.cursor.Cursor.{Cursor}
 use Rattle.telegram.specs.declared.row.Row.{Row}
-use Rattle.telegram.specs.declared.records.Parts.{Parts}
+use Rattle.layout.specs.declared.records.Parts.{Parts}
 use Rattle.telegram.specs.declared.refusal.Reason.the-variants.{Unknown}
-use Rattle.telegram.specs.declared.stage.Progress.{Progress}
+use Rattle.layout.specs.declared.stage.Progress.{Progress}
 use Rattle.telegram.specs.Catalogue.{name}
 use Rattle.telegram.specs.Refusal.{reasonNumber}
-use Rattle.telegram.specs.Layout.{Layout, layout, is-scan, wanted}
-use Rattle.telegram.specs.Follow.{todo}
-use Rattle.telegram.specs.Passing.{Begins}
-use Rattle.telegram.specs.Source.{values, Tells}
+use Rattle.layout.specs.Layout.{Layout, layout, is-scan, wanted}
+use Rattle.layout.specs.Follow.{todo}
+use Rattle.layout.specs.Passing.{Begins}
+use Rattle.layout.specs.Source.{values, Tells}
 use Rattle.framing.specs.Spell.{Find}
 use Rattle.framing.specs.Walk.{Walk, whole, halt, onward, left}
 use Rattle.framing.specs.Check.{Checks, starting}

@@ -19,9 +19,9 @@ use Rattle.telegram.specs.declared.row.Row.{Row}
 use Rattle.telegram.specs.Value.{Value, number, want, Good}
 use Rattle.telegram.specs.Catalogue.{name}
 use Rattle.telegram.specs.Refusal.{reasonNumber, faultNumber}
-use Rattle.telegram.specs.Layout.{Layout, State, wanted, advance, weight, layout, limit}
-use Rattle.telegram.specs.Source.{When, Fits, Within, Seen, values}
-use Rattle.telegram.proofs.Times.{falls, heavy, light}
+use Rattle.layout.specs.Layout.{Layout, State, wanted, advance, weight, layout, limit}
+use Rattle.layout.specs.Source.{When, Fits, Within, Seen, values}
+use Rattle.layout.proofs.Times.{falls, heavy, light}
 use Rattle.framing.specs.Spell.{Spelt, found, faulty, Find, Fair, Sound, Opened, holds, wrong, Opens, Inside, Lies}
 use Rattle.framing.specs.Walk.{Ending, whole, halt, Walk, stop, more, closed, seen, walk}
 use Rattle.framing.specs.Read.{Reading, Outcome, accepted, refused, head, after-head, without-blank, judged, itemized, headed, unwrapped, reads, telegram, cut, spans, joined, Keeps}

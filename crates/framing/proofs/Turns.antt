@@ -7,19 +7,19 @@ use lib.ListN.{length}
 use Rattle.std.specs.declared.option.Option.the-variants.{Some, None}
 use Rattle.std.specs.declared.result.Result.the-variants.{Ok}
 use Rattle.telegram.specs.declared.item.Want.{Want}
-use Rattle.telegram.specs.declared.cursor.Cursor.{Cursor}
+use Rattle.layout.specs.declared.cursor.Cursor.{Cursor}
 use Rattle.telegram.specs.declared.row.Row.{Row}
-use Rattle.telegram.specs.declared.records.Parts.{Parts}
+use Rattle.layout.specs.declared.records.Parts.{Parts}
 use Rattle.telegram.specs.declared.refusal.Reason.the-variants.{Rest}
-use Rattle.telegram.specs.declared.stage.Progress.{Progress}
+use Rattle.layout.specs.declared.stage.Progress.{Progress}
 use Rattle.telegram.specs.Value.{valueOf}
 use Rattle.telegram.specs.Refusal.{reasonNumber}
-use Rattle.telegram.specs.Layout.{layout, is-scan, wanted, weight}
-use Rattle.telegram.specs.Follow.{todo, stands}
-use Rattle.telegram.specs.Passing.{Begins, Lands, scanning, no-parts}
-use Rattle.telegram.specs.Source.{values, Tells}
-use Rattle.telegram.proofs.Times.{falls}
-use Rattle.telegram.proofs.Tellings.{Tale, tale-none, turn, told, kept-scan}
+use Rattle.layout.specs.Layout.{layout, is-scan, wanted, weight}
+use Rattle.layout.specs.Follow.{todo, stands}
+use Rattle.layout.specs.Passing.{Begins, Lands, scanning, no-parts}
+use Rattle.layout.specs.Source.{values, Tells}
+use Rattle.layout.proofs.Times.{falls}
+use Rattle.layout.proofs.Tellings.{Tale, tale-none, turn, told, kept-scan}
 use Rattle.framing.specs.Spell.{Find}
 use Rattle.framing.specs.Walk.{Walk, whole, halt, stop, onward}
 use Rattle.framing.specs.Check.{Passed, Checks, starting}

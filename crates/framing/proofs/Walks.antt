@@ -12,15 +12,15 @@ use Rattle.telegram.specs.declared.refusal.Fault.{Fault}
 use Rattle.telegram.specs.declared.item.Want.{Want}
 use Rattle.telegram.specs.declared.refusal.Reason.the-variants.{Limit, Rest}
 use Rattle.telegram.specs.declared.row.Row.{Row}
-use Rattle.telegram.specs.declared.stage.Progress.{Progress}
-use Rattle.telegram.specs.declared.cursor.Cursor.{Cursor}
+use Rattle.layout.specs.declared.stage.Progress.{Progress}
+use Rattle.layout.specs.declared.cursor.Cursor.{Cursor}
 use Rattle.telegram.specs.Value.{Value, num, real, text, want, Good, number}
 use Rattle.telegram.specs.Refusal.{reasonNumber, faultNumber}
-use Rattle.telegram.specs.Layout.{Layout, State, state, layout, limit, is-scan, wanted, advance, weight}
-use Rattle.telegram.specs.Follow.{todo, stands, Fitting}
-use Rattle.telegram.specs.Passing.{Begins}
-use Rattle.telegram.specs.Source.{Seen, values}
-use Rattle.telegram.proofs.Times.{falls, light, heavy}
+use Rattle.layout.specs.Layout.{Layout, State, state, layout, limit, is-scan, wanted, advance, weight}
+use Rattle.layout.specs.Follow.{todo, stands, Fitting}
+use Rattle.layout.specs.Passing.{Begins}
+use Rattle.layout.specs.Source.{Seen, values}
+use Rattle.layout.proofs.Times.{falls, light, heavy}
 use Rattle.framing.specs.Spell.{Spelt, found, faulty, Find, Fair}
 use Rattle.framing.specs.Walk.{seen, Ending, halt, whole, Walk, stop, more, closed, walk, onward}
 use Rattle.framing.specs.Check.{starting}

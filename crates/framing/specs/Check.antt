@@ -8,16 +8,16 @@ use Rattle.std.specs.declared.result.Result.{Result}
 use Rattle.std.specs.declared.result.Result.the-variants.{Ok, Err}
 use Rattle.std.specs.declared.option.Option.the-variants.{Some}
 use Rattle.telegram.specs.declared.item.Item.{Item}
-use Rattle.telegram.specs.declared.cursor.Cursor.{Cursor}
+use Rattle.layout.specs.declared.cursor.Cursor.{Cursor}
 use Rattle.telegram.specs.declared.row.Row.{Row}
-use Rattle.telegram.specs.declared.records.Parts.{Parts}
+use Rattle.layout.specs.declared.records.Parts.{Parts}
 use Rattle.telegram.specs.declared.refusal.Refusal.{Refusal}
 use Rattle.telegram.specs.Refusal.{reasonNumber}
 use Rattle.telegram.specs.Value.{want, number, valueOf}
-use Rattle.telegram.specs.Layout.{layout, limit, weight, wanted, advance, is-scan}
-use Rattle.telegram.specs.Follow.{todo, stands}
-use Rattle.telegram.specs.Passing.{Goes, noted}
-use Rattle.telegram.specs.Source.{values, Tells}
+use Rattle.layout.specs.Layout.{layout, limit, weight, wanted, advance, is-scan}
+use Rattle.layout.specs.Follow.{todo, stands}
+use Rattle.layout.specs.Passing.{Goes, noted}
+use Rattle.layout.specs.Source.{values, Tells}
 use Rattle.framing.specs.Spell.{Find}
 use Rattle.framing.specs.Walk.{Walk, whole, halt, stop, more, walk, onward}
 

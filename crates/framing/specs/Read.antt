@@ -11,13 +11,13 @@ use Rattle.std.specs.declared.option.Option.the-variants.{Some, None}
 use Rattle.std.specs.declared.result.Result.{Result}
 use Rattle.std.specs.declared.result.Result.the-variants.{Ok, Err}
 use Rattle.telegram.specs.declared.row.Row.{Row}
-use Rattle.telegram.specs.declared.cursor.Cursor.{Cursor}
+use Rattle.layout.specs.declared.cursor.Cursor.{Cursor}
 use Rattle.telegram.specs.declared.refusal.Refusal.{Refusal}
 use Rattle.telegram.specs.declared.refusal.Reason.the-variants.{Size, Unknown}
 use Rattle.telegram.specs.Refusal.{reasonNumber}
 use Rattle.telegram.specs.Catalogue.{name, listed}
-use Rattle.telegram.specs.Layout.{Layout, layout, limit, weight, wanted, is-scan}
-use Rattle.telegram.specs.Source.{Telegram, Within, Seen, values, Tells}
+use Rattle.layout.specs.Layout.{Layout, layout, limit, weight, wanted, is-scan}
+use Rattle.layout.specs.Source.{Telegram, Within, Seen, values, Tells}
 use Rattle.framing.specs.declared.head.Head.{Head}
 use Rattle.framing.specs.Spell.{Opened, holds, wrong, Opens, Find}
 use Rattle.framing.specs.Walk.{Ending, whole, halt, Walk, walk, left}

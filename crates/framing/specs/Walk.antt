@@ -8,12 +8,12 @@ use Rattle.std.specs.declared.option.Option.{Option}
 use Rattle.std.specs.declared.option.Option.the-variants.{Some, None}
 use Rattle.telegram.specs.declared.item.Want.{Want}
 use Rattle.telegram.specs.declared.refusal.Reason.the-variants.{Limit, Rest}
-use Rattle.telegram.specs.declared.cursor.Cursor.{Cursor}
+use Rattle.layout.specs.declared.cursor.Cursor.{Cursor}
 use Rattle.telegram.specs.Value.{Value, number}
 use Rattle.telegram.specs.Refusal.{reasonNumber, faultNumber}
-use Rattle.telegram.specs.Layout.{Layout, State, wanted, advance, weight}
-use Rattle.telegram.specs.Follow.{todo}
-use Rattle.telegram.specs.Source.{Seen}
+use Rattle.layout.specs.Layout.{Layout, State, wanted, advance, weight}
+use Rattle.layout.specs.Follow.{todo}
+use Rattle.layout.specs.Source.{Seen}
 use Rattle.framing.specs.Spell.{Spelt, found, faulty, Find}
 
 -- the end of the layout and of the bytes; or a refusal, by number and place

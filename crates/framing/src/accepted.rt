@@ -3,18 +3,18 @@ ghost use mathlib.Core.Path.{_≡_};
 ghost use Prim.Native.Nat.{ℕ, _+_};
 ghost use lib.ListN.{length, drop};
 ghost use denote.Ref.{now};
-ghost use Rattle.telegram.specs.Source.{values};
+ghost use Rattle.layout.specs.Source.{values};
 ghost use Rattle.framing.specs.Read.{Keeps, Accepts};
 use crate::framing::Framing;
 use crate::framing::Meaning;
 use crate::head::Head;
-use telegram::cursor::Cursor;
+use layout::cursor::Cursor;
 use telegram::item::Item;
 use telegram::item::Placed;
-use telegram::records::Parts;
+use layout::records::Parts;
 use telegram::refusal::Refusal;
 use telegram::row::Row;
-use telegram::source::Source;
+use layout::source::Source;
 
 #[derive_where(Clone, Copy)]
 pub struct Accepted<'f, 'b, F> {

@@ -8,7 +8,7 @@ use crate::head::Head;
 use crate::read::read;
 use crate::spelling::Spelling;
 use crate::walk::next;
-use telegram::cursor::Cursor;
+use layout::cursor::Cursor;
 use telegram::item::Item;
 use telegram::item::Placed;
 use telegram::refusal::Refusal;

@@ -2,11 +2,11 @@
 ghost use mathlib.Core.Path.{_≡_};
 ghost use mathlib.Core.List.{List};
 ghost use Prim.Native.Nat.{ℕ};
-ghost use Rattle.telegram.specs.declared.cursor.Cursor.{Cursor as At};
-ghost use Rattle.telegram.specs.Source.{Seen, Pulled};
+ghost use Rattle.layout.specs.declared.cursor.Cursor.{Cursor as At};
+ghost use Rattle.layout.specs.Source.{Seen, Pulled};
 ghost use Rattle.framing.specs.Read.{Outcome, Keeps, Reads};
 use crate::head::Head;
-use telegram::cursor::Cursor;
+use layout::cursor::Cursor;
 use telegram::item::Item;
 use telegram::item::Placed;
 use telegram::refusal::Refusal;

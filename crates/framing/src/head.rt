@@ -1,6 +1,6 @@
 // What reading keeps of a telegram that is accepted.
-use telegram::cursor::Cursor;
-use telegram::records::Parts;
+use layout::cursor::Cursor;
+use layout::records::Parts;
 use telegram::row::Row;
 
 // The input up to the body's end, the row, where the body begins, where the items begin, and the optional parts.

@@ -2,18 +2,18 @@
 ghost use mathlib.Core.Path.{_≡_};
 ghost use Prim.Native.Nat.{ℕ, _+_, _≤_};
 ghost use lib.ListN.{length, take, drop};
-ghost use Rattle.telegram.specs.Layout.{layout};
+ghost use Rattle.layout.specs.Layout.{layout};
 ghost use Rattle.framing.specs.Walk.{left};
 ghost use Rattle.framing.specs.Read.{word, head, after-head, headed, reads, Names, Holds, Reads};
 use crate::head::Head;
 use crate::spelling::Extent;
 use crate::spelling::Spelling;
 use crate::walk::check;
-use telegram::cursor::Cursor;
+use layout::cursor::Cursor;
 use telegram::refusal::Reason;
 use telegram::refusal::Refusal;
 use telegram::row::Row;
-use telegram::stage::Progress;
+use layout::stage::Progress;
 
 // The longest input that is read.
 pub const LONGEST: usize = 65_536;

@@ -5,21 +5,21 @@ ghost use Prim.Native.Nat.{ℕ, _≤_};
 ghost use lib.Dec.{ltb};
 ghost use lib.ListN.{length, drop};
 ghost use Rattle.std.specs.declared.option.Option.the-variants.{Some};
-ghost use Rattle.telegram.specs.Layout.{wanted};
-ghost use Rattle.telegram.specs.Follow.{todo};
-ghost use Rattle.telegram.specs.Source.{Pulled};
+ghost use Rattle.layout.specs.Layout.{wanted};
+ghost use Rattle.layout.specs.Follow.{todo};
+ghost use Rattle.layout.specs.Source.{Pulled};
 ghost use Rattle.framing.specs.Walk.{left};
 ghost use Rattle.framing.specs.Check.{Checks, Passes};
 use crate::spelling::Spelling;
-use telegram::cursor::Cursor;
+use layout::cursor::Cursor;
 use telegram::item::Item;
 use telegram::item::Placed;
 use telegram::item::Want;
-use telegram::records::Parts;
+use layout::records::Parts;
 use telegram::refusal::Reason;
 use telegram::refusal::Refusal;
 use telegram::row::Row;
-use telegram::stage::Progress;
+use layout::stage::Progress;
 
 // One item more: the cursor behind it, and the optional parts with it.
 fn pass<'b, S: Spelling>(

@@ -12,7 +12,7 @@ use Rattle.telegram.specs.declared.refusal.Fault.the-variants.{Misspelt}
 use Rattle.telegram.specs.declared.row.Row.{Row}
 use Rattle.telegram.specs.declared.row.Row.the-variants.{SmnRun, SanRun, SmnSetAccessMode, SwnParticle, SwaParticle, SsnScanData, SraScanData}
 use Rattle.telegram.specs.Value.{Value, num}
-use Rattle.telegram.specs.Source.{Seen}
+use Rattle.layout.specs.Source.{Seen}
 use Rattle.framing.specs.Spell.{Spelt, found, faulty}
 use Rattle.framing.specs.Read.{Reading, Outcome, accepted, refused}
 use Rattle.cola_a.specs.Items.{find-text}

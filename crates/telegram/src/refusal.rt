@@ -3,7 +3,7 @@ ghost use mathlib.Core.Path.{_≡_};
 ghost use Rattle.telegram.specs.Refusal.{reasonNumber, faultNumber};
 
 // Why bytes are refused.
-#[derive(Clone, Copy, PartialEq, Eq, Debug)]
+#[derive(Clone, Copy)]
 pub enum Reason {
     // The input is empty or too long.
     Size,
@@ -24,14 +24,14 @@ pub enum Reason {
 }
 
 // A reason, and the place in the whole input that it is about.
-#[derive(Clone, Copy, PartialEq, Eq, Debug)]
+#[derive(Clone, Copy)]
 pub struct Refusal {
     pub reason: Reason,
     pub place: usize,
 }
 
 // What can be wrong with the spelling of one item.
-#[derive(Clone, Copy, PartialEq, Eq, Debug)]
+#[derive(Clone, Copy)]
 pub enum Fault {
     Cut,
     Misspelt,

@@ -6,7 +6,7 @@ ghost use Rattle.std.specs.shelf.Text.{sameBytes};
 ghost use Rattle.telegram.specs.Catalogue.{command, name, called, listed};
 
 // A row goes by the three letters of its type and by what its name stands for.
-#[derive(Clone, Copy, PartialEq, Eq, Debug)]
+#[derive(Clone, Copy)]
 pub enum Row {
     SsnScanData,
     SraScanData,

@@ -1,6 +1,6 @@
 use Prim.Native.Nat.{_+_}
-use Rattle.telegram.specs.Layout.{weight}
-use Rattle.telegram.specs.Follow.{todo}
+use Rattle.layout.specs.Layout.{weight}
+use Rattle.layout.specs.Follow.{todo}
 use Rattle.framing.proofs.Turns.{Passing}
 use Rattle.framing.proofs.walk.check.Given as given
 

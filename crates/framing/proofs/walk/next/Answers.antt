@@ -1,5 +1,5 @@
 use mathlib.Core.Path.{_≡_, refl, sym, ap, subst, _∙_}
-use Rattle.telegram.specs.Source.{Pulled}
+use Rattle.layout.specs.Source.{Pulled}
 use Rattle.framing.specs.Walk.{left}
 use Rattle.framing.proofs.Walks.{on-end, on-fault, on-unfit, on-more, alike, closed-items}
 use Rattle.framing.proofs.walk.next.Needs as need

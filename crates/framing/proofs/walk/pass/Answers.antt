@@ -1,9 +1,9 @@
 use mathlib.Core.Path.{_≡_, refl, sym, ap, subst, _∙_}
 use lib.ListN.{drop}
 use Rattle.telegram.specs.Value.{valueOf}
-use Rattle.telegram.specs.Layout.{wanted, advance}
-use Rattle.telegram.specs.Follow.{todo}
-use Rattle.telegram.specs.Passing.{Goes}
+use Rattle.layout.specs.Layout.{wanted, advance}
+use Rattle.layout.specs.Follow.{todo}
+use Rattle.layout.specs.Passing.{Goes}
 use Rattle.framing.specs.Walk.{stop, halt}
 use Rattle.framing.proofs.Walks.{on-fault, on-unfit, on-more, fair-want, fair-fits}
 use Rattle.framing.proofs.walk.pass.Needs as need

@@ -1,11 +1,11 @@
 use mathlib.Core.Path.{_≡_, refl, sym, ap, subst, _∙_}
 use Rattle.std.specs.declared.option.Option.the-variants.{Some}
-use Rattle.telegram.specs.declared.stage.Stage.the-variants.{Optional}
-use Rattle.telegram.specs.Layout.{advance}
-use Rattle.telegram.specs.Follow.{todo}
-use Rattle.telegram.specs.Passing.{Goes, Reaches}
-use Rattle.telegram.proofs.Onwards.{arrived, onward-ways}
-use Rattle.telegram.proofs.stage.Progress.next.Needs as need
+use Rattle.layout.specs.declared.stage.Stage.the-variants.{Optional}
+use Rattle.layout.specs.Layout.{advance}
+use Rattle.layout.specs.Follow.{todo}
+use Rattle.layout.specs.Passing.{Goes, Reaches}
+use Rattle.layout.proofs.Onwards.{arrived, onward-ways}
+use Rattle.layout.proofs.stage.Progress.next.Needs as need
 
 pub returns-in-Some : need.returns-in-Some
 returns-in-Some c =

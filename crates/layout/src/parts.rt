@@ -1,10 +1,10 @@
 // The optional parts, gathered while their items pass.
 ghost use mathlib.Core.Path.{_≡_};
 ghost use Rattle.telegram.specs.Value.{number, valueOf};
-ghost use Rattle.telegram.specs.Layout.{wanted};
-ghost use Rattle.telegram.specs.Follow.{todo, in-optional, Fitting};
-ghost use Rattle.telegram.specs.Passing.{no-parts, with-label, noted, noted-in};
-use crate::item::Item;
+ghost use Rattle.layout.specs.Layout.{wanted};
+ghost use Rattle.layout.specs.Follow.{todo, in-optional, Fitting};
+ghost use Rattle.layout.specs.Passing.{no-parts, with-label, noted, noted-in};
+use telegram::item::Item;
 use crate::progress::set_field;
 use crate::progress::set_hand;
 use crate::records::Parts;

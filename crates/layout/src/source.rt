@@ -1,12 +1,12 @@
 // A telegram at hand, whose items are pulled one after the other.
 ghost use mathlib.Core.Path.{_≡_};
 ghost use mathlib.Core.List.{List};
-ghost use Rattle.telegram.specs.declared.cursor.Cursor.{Cursor as At};
-ghost use Rattle.telegram.specs.Source.{Telegram, Seen, Pulled, values};
+ghost use Rattle.layout.specs.declared.cursor.Cursor.{Cursor as At};
+ghost use Rattle.layout.specs.Source.{Telegram, Seen, Pulled, values};
 use crate::cursor::Cursor;
-use crate::item::Item;
-use crate::item::Placed;
-use crate::row::Row;
+use telegram::item::Item;
+use telegram::item::Placed;
+use telegram::row::Row;
 
 pub trait Source {
     ghost telegram: { Self → Telegram };

@@ -1,0 +1,4 @@
+pub mod Layout
+pub mod Follow
+pub mod Passing
+pub mod Source
