@@ -3,3 +3,4 @@ pub mod Bounds
 pub mod Sounds
 pub mod Insides
 pub mod Begins
+pub mod Writes

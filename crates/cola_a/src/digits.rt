@@ -5,14 +5,14 @@ ghost use lib.ListN.{length, drop};
 ghost use Rattle.cola_a.specs.Digits.{radix, run, Says, Runs};
 
 // The base of a number: ten behind a sign, and sixteen else.
-#[derive(Clone, Copy, PartialEq, Eq, Debug)]
+#[derive(Clone, Copy, PartialEq, Eq)]
 pub enum Base {
     Ten,
     Sixteen,
 }
 
 // What a byte is to a run of digits: one more of them, the blank behind them, or neither.
-#[derive(Clone, Copy, PartialEq, Eq, Debug)]
+#[derive(Clone, Copy)]
 pub enum Glyph {
     Digit(u8),
     Blank,
@@ -20,7 +20,7 @@ pub enum Glyph {
 }
 
 // A run of digits: how many, their number, and the place behind the last.
-#[derive(Clone, Copy, PartialEq, Eq, Debug)]
+#[derive(Clone, Copy)]
 pub struct Digits {
     pub count: usize,
     pub value: u64,

@@ -16,7 +16,7 @@ use telegram::kind::Kind;
 use telegram::refusal::Fault;
 
 // How an item begins: with a sign for decimal, or with a digit for hexadecimal.
-#[derive(Clone, Copy, PartialEq, Eq, Debug)]
+#[derive(Clone, Copy)]
 pub enum Lead {
     Plus,
     Minus,

@@ -4,3 +4,4 @@ pub mod envelope;
 pub mod items;
 pub mod letters;
 pub mod read;
+pub mod canon;

@@ -10,7 +10,7 @@ use telegram::refusal::Fault;
 use telegram::refusal::Refusal;
 
 // Where a body stands in the whole input: its first byte, and the place behind its last.
-#[derive(Clone, Copy, PartialEq, Eq, Debug)]
+#[derive(Clone, Copy)]
 pub struct Extent {
     pub from: usize,
     pub to: usize,

@@ -1,0 +1,3 @@
+// Sheets: what bytes come to, printed line by line.
+pub mod item;
+pub mod sheet;
