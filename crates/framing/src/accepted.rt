@@ -9,12 +9,12 @@ use crate::framing::Framing;
 use crate::framing::Meaning;
 use crate::head::Head;
 use layout::cursor::Cursor;
+use layout::records::Parts;
+use layout::source::Source;
 use telegram::item::Item;
 use telegram::item::Placed;
-use layout::records::Parts;
 use telegram::refusal::Refusal;
 use telegram::row::Row;
-use layout::source::Source;
 
 #[derive_where(Clone, Copy)]
 pub struct Accepted<'f, 'b, F> {

@@ -10,10 +10,10 @@ use crate::spelling::Extent;
 use crate::spelling::Spelling;
 use crate::walk::check;
 use layout::cursor::Cursor;
+use layout::stage::Progress;
 use telegram::refusal::Reason;
 use telegram::refusal::Refusal;
 use telegram::row::Row;
-use layout::stage::Progress;
 
 // The longest input that is read.
 pub const LONGEST: usize = 65_536;

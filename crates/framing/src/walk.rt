@@ -12,14 +12,14 @@ ghost use Rattle.framing.specs.Walk.{left};
 ghost use Rattle.framing.specs.Check.{Checks, Passes};
 use crate::spelling::Spelling;
 use layout::cursor::Cursor;
+use layout::records::Parts;
+use layout::stage::Progress;
 use telegram::item::Item;
 use telegram::item::Placed;
 use telegram::item::Want;
-use layout::records::Parts;
 use telegram::refusal::Reason;
 use telegram::refusal::Refusal;
 use telegram::row::Row;
-use layout::stage::Progress;
 
 // One item more: the cursor behind it, and the optional parts with it.
 fn pass<'b, S: Spelling>(

@@ -4,7 +4,6 @@ ghost use Rattle.telegram.specs.Value.{number, valueOf};
 ghost use Rattle.layout.specs.Layout.{wanted};
 ghost use Rattle.layout.specs.Follow.{todo, in-optional, Fitting};
 ghost use Rattle.layout.specs.Passing.{no-parts, with-label, noted, noted-in};
-use telegram::item::Item;
 use crate::progress::set_field;
 use crate::progress::set_hand;
 use crate::records::Parts;
@@ -13,6 +12,7 @@ use crate::stage::OptionalStage;
 use crate::stage::PositionField;
 use crate::stage::Stage;
 use crate::stage::TimeField;
+use telegram::item::Item;
 
 impl<'a> Parts<'a> {
     // No part is there.

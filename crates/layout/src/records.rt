@@ -1,7 +1,7 @@
 // The optional parts of scan data, as plain records.
 
 // Where the device stands: coordinates and rotations as Real patterns, the kind of rotation, and whether its name is sent.
-#[derive(Clone, Copy)]
+#[derive(Clone, Copy, PartialEq, Eq)]
 pub struct Position {
     pub x: u32,
     pub y: u32,
@@ -14,7 +14,7 @@ pub struct Position {
 }
 
 // When the scan was taken.
-#[derive(Clone, Copy)]
+#[derive(Clone, Copy, PartialEq, Eq)]
 pub struct Time {
     pub year: u16,
     pub month: u8,

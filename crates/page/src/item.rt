@@ -66,7 +66,11 @@ pub fn put_value(out: &mut Vec<u8>, item: Item<'_>) -> Result<(), AllocError>
 }
 
 // Adds the line of an item.
-pub(crate) fn put_line(heap: Global, out: &mut Vec<u8>, item: Placed<Item<'_>>) -> Result<(), AllocError>
+pub(crate) fn put_line(
+    heap: Global,
+    out: &mut Vec<u8>,
+    item: Placed<Item<'_>>,
+) -> Result<(), AllocError>
     ensures { λ r. ⌜ made r (λ _. vec-items (now (out .exit)) ≡ vec-items (now (out .entry)) ++ line (seenOf (item .entry))) ⌝ }
 {
     let front = front_of(heap, item)?;

@@ -15,9 +15,9 @@ use framing::framed::FramedFraming;
 use framing::framing::Framing;
 use framing::framing::Meaning;
 use framing::head::Head;
+use layout::cursor::Cursor;
 use std::alloc::AllocError;
 use std::alloc::Global;
-use layout::cursor::Cursor;
 use telegram::refusal::Refusal;
 use telegram::row::Row;
 
@@ -43,7 +43,13 @@ fn put_title(out: &mut Vec<u8>, row: Row) -> Result<(), AllocError>
 }
 
 // Adds a line for each item of a text, from a cursor on.
-fn put_items<F: Framing>(heap: Global, out: &mut Vec<u8>, framing: &F, text: &[u8], start: Cursor) -> Result<(), AllocError>
+fn put_items<F: Framing>(
+    heap: Global,
+    out: &mut Vec<u8>,
+    framing: &F,
+    text: &[u8],
+    start: Cursor,
+) -> Result<(), AllocError>
     ensures { λ r. ⌜ made r (λ _. vec-items (now (out .exit)) ≡ vec-items (now (out .entry)) ++ lines (F·Meaning .left (now (framing .entry)) (now (text .entry)) start)) ⌝ }
 {
     let mut at = start;
@@ -55,7 +61,12 @@ fn put_items<F: Framing>(heap: Global, out: &mut Vec<u8>, framing: &F, text: &[u
 }
 
 // Adds the sheet of a telegram that is accepted.
-fn put_telegram<F: Framing>(heap: Global, out: &mut Vec<u8>, framing: &F, head: Head<'_>) -> Result<(), AllocError>
+fn put_telegram<F: Framing>(
+    heap: Global,
+    out: &mut Vec<u8>,
+    framing: &F,
+    head: Head<'_>,
+) -> Result<(), AllocError>
     ensures { λ r. ⌜ made r (λ _. vec-items (now (out .exit)) ≡ vec-items (now (out .entry)) ++ (title (head .entry .row) ++ lines (F·Meaning .left (now (framing .entry)) (now (head .entry .text)) (head .entry .start)))) ⌝ }
 {
     put_title(out, head.row)?;

@@ -1,5 +1,5 @@
 // Telegrams: kinds and items, refusals, and the catalogue.
-pub mod kind;
 pub mod item;
+pub mod kind;
 pub mod refusal;
 pub mod row;
