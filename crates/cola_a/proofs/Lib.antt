@@ -4,3 +4,4 @@ pub mod Sounds
 pub mod Insides
 pub mod Begins
 pub mod Writes
+pub mod Backs

@@ -6,11 +6,9 @@ use native.Mathlib.Omega.{arith}
 use lib.ListN.{length, take, drop, set}
 use Rattle.std.proofs.shelf.Lists.{map-push, append-assoc, drop-set, take-set, take-take, take-append-drop, length-map, length-push}
 use Rattle.std.proofs.shelf.Ways.{tells}
-use Rattle.cola_a.specs.Canon.{fixed, letter, hexadecimals, hexDigits}
-
-pub length-fixed : (b n v : ℕ) → length (fixed b n v) ≡ n
-length-fixed b zero v = refl
-length-fixed b (suc n) v = length-push (fixed b n (v / b)) (v % b) ∙ omega (arith, length-fixed b n (v / b))
+use Rattle.framing.specs.Canon.{fixed}
+use Rattle.framing.proofs.Digitals.{length-fixed}
+use Rattle.cola_a.specs.Canon.{letter, hexadecimals, hexDigits}
 
 pub length-hexadecimals : (n v : ℕ) → length (hexadecimals n v) ≡ n
 length-hexadecimals n v = omega (arith, length-map (fixed 16 n v) letter, length-fixed 16 n v)

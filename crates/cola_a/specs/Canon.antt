@@ -1,18 +1,14 @@
 -- The canonical letters of a value. Assumes nothing.
 use mathlib.Core.Bool.{cond}
-use mathlib.Core.List.{List, [], _∷_, _++_, map}
-use Prim.Native.Nat.{ℕ, zero, suc, _+_, _/_, _%_, max}
+use mathlib.Core.List.{List, _∷_, map}
+use Prim.Native.Nat.{ℕ, _+_, max}
 use lib.Dec.{ltb}
 use Rattle.telegram.specs.Value.{Value, num, real, text}
+use Rattle.framing.specs.Canon.{Canon, fixed}
 
 -- a digit, 0 to 9 and A to F
 abbrev pub letter : ℕ → ℕ
 letter d = cond (ltb d 10) (48 + d) (55 + d)
-
--- the n lowest digits of v in a base, the highest first
-abbrev pub fixed : ℕ → ℕ → ℕ → List ℕ
-fixed base zero v = []
-fixed base (suc n) v = fixed base n (v / base) ++ (v % base ∷ [])
 
 -- the least n of which v is below 16 ^ n, for 32 bits
 abbrev pub hexDigits : ℕ → ℕ
@@ -33,3 +29,7 @@ abbrev pub letters : Value → List ℕ
 letters (num k v) = hexadecimals (max 1 (hexDigits v)) v
 letters (real v) = hexadecimals 8 v
 letters (text s) = s
+
+-- an item with its blank
+abbrev pub canon-text : Canon
+canon-text first v = 32 ∷ letters v

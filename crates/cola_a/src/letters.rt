@@ -1,6 +1,7 @@
 // The spelling of CoLa A.
 ghost use mathlib.Core.Path.{_≡_};
 ghost use mathlib.Core.Bool.{false};
+ghost use Rattle.cola_a.specs.Canon.{canon-text};
 ghost use Rattle.cola_a.specs.Envelope.{open-text};
 ghost use Rattle.cola_a.specs.Items.{find-text};
 use crate::envelope::open_text;
@@ -22,6 +23,8 @@ pub impl Spelling for Letters as LettersSpelling {
     ghost spare = { false };
 
     ghost finds = { find-text };
+
+    ghost canon = { canon-text };
 
     fn open(bytes: &[u8]) -> Result<Extent, Refusal> {
         open_text(bytes)

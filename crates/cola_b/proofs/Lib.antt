@@ -2,3 +2,4 @@ pub mod Patterns
 pub mod Sounds
 pub mod Changes
 pub mod Guards
+pub mod Backs

@@ -1,3 +1,4 @@
 pub mod Items
+pub mod Canon
 pub mod Envelope
 pub mod Read

@@ -1,5 +1,6 @@
 // The spelling: a blank before the first item, and before no other.
 ghost use mathlib.Core.Bool.{true};
+ghost use Rattle.cola_b.specs.Canon.{canon-binary};
 ghost use Rattle.cola_b.specs.Items.{find-binary};
 ghost use Rattle.cola_b.specs.Envelope.{open-binary};
 use crate::items::blanked_at;
@@ -20,6 +21,8 @@ pub impl Spelling for Octets as OctetsSpelling {
     ghost spare = { true };
 
     ghost finds = { find-binary };
+
+    ghost canon = { canon-binary };
 
     fn open(bytes: &[u8]) -> Result<Extent, Refusal> {
         crate::envelope::open(bytes)

@@ -5,3 +5,6 @@ pub mod Turns
 pub mod Heads
 pub mod Bodies
 pub mod Keepings
+pub mod Digitals
+pub mod Backs
+pub mod Rounds

@@ -25,6 +25,8 @@ pub struct Accepted<'f, 'b, F> {
 pub impl<'f, 'b, F: Framing> Source for Accepted<'f, 'b, F> as AcceptedSource {
     ghost telegram = { λ s. record { row = s .head .row; items = values (F·Meaning .left (now (s .framing)) (now (s .head .text)) (s .head .start)) } };
 
+    ghost items = { λ s. F·Meaning .left (now (s .framing)) (now (s .head .text)) (s .head .start) };
+
     ghost rest = { λ s. F·Meaning .left (now (s .framing)) (now (s .head .text)) };
 
     fn row(&self) -> Row {

@@ -3,6 +3,7 @@ ghost use mathlib.Core.Path.{_≡_};
 ghost use mathlib.Core.Bool.{Bool};
 ghost use Prim.Native.Nat.{ℕ, _≤_};
 ghost use lib.ListN.{length, drop};
+ghost use Rattle.framing.specs.Canon.{Canon, Back};
 ghost use Rattle.framing.specs.Spell.{Opens, Find, Inside, Sound, Opening, Finds};
 use telegram::item::Item;
 use telegram::item::Want;
@@ -26,9 +27,14 @@ pub trait Spelling {
     // The item that stands at the start of a list of bytes.
     ghost finds: { Find };
 
+    // How an item is written.
+    ghost canon: { Canon };
+
     law inside: { Inside opens };
 
     law sound: { Sound finds };
+
+    law back: { Back finds canon };
 
     fn open(bytes: &[u8]) -> Result<Extent, Refusal>
         ensures { λ r. ⌜ Opening (opens (now (bytes .entry))) r ⌝ };

@@ -11,6 +11,9 @@ use telegram::row::Row;
 pub trait Source {
     ghost telegram: { Self → Telegram };
 
+    // Its items with their places.
+    ghost items: { Self → List Seen };
+
     // The items from a cursor on.
     ghost rest: { Self → At → List Seen };
 
@@ -18,7 +21,8 @@ pub trait Source {
         ensures { λ r. ⌜ r ≡ telegram (now (self .entry)) .row ⌝ };
 
     fn start(&self) -> Cursor
-        ensures { λ r. ⌜ values (rest (now (self .entry)) r) ≡ telegram (now (self .entry)) .items ⌝ };
+        ensures all { λ r. ⌜ rest (now (self .entry)) r ≡ items (now (self .entry)) ⌝ }
+        ensures values { λ _. ⌜ values (items (now (self .entry))) ≡ telegram (now (self .entry)) .items ⌝ };
 
     fn next(&self, at: Cursor) -> Option<(Placed<Item<'_>>, Cursor)>
         ensures { λ r. ⌜ Pulled (rest (now (self .entry))) at r ⌝ };
