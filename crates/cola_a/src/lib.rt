@@ -1,4 +1,6 @@
 // CoLa A: telegrams as text, between the bytes 02 and 03.
+#![tactic(auto)]
+
 pub mod canon;
 pub mod digits;
 pub mod envelope;

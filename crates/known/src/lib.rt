@@ -1,4 +1,6 @@
 // The framings that programs know, and how they are told: by a telegram's bytes, by their letter, or by their number.
+#![tactic(auto)]
+
 ghost use Rattle.std.specs.Prelude.{◌≡◌, ◌==◌, slice_index};
 ghost use Rattle.known.specs.Known.{told, lettered, numbered};
 

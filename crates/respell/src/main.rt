@@ -1,4 +1,6 @@
 // Respells one telegram, which it reads from standard input, into the framing that its argument names.
+#![tactic(auto)]
+
 use anyhow::anyhow;
 use framed::read::LONGEST;
 use framing::respell::respell;

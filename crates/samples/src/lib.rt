@@ -1,4 +1,6 @@
 // The sample telegrams, as one statement over their list.
+#![tactic(auto)]
+
 ghost use Rattle.std.specs.Prelude.{◌≡◌, length};
 ghost use Rattle.samples.specs.Samples.{samples, SamplesStand};
 

@@ -1,4 +1,6 @@
 // Prints the sheet of one telegram, which it reads from standard input.
+#![tactic(auto)]
+
 use anyhow::anyhow;
 use framed::read::LONGEST;
 use page::sheet::sheet;

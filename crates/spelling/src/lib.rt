@@ -1,4 +1,6 @@
 // Spellings: how an envelope is opened and one item is found and written, and the one walk along the layout of a row.
+#![tactic(auto)]
+
 pub mod put;
 pub mod terms;
 pub mod text;

@@ -1,4 +1,6 @@
 // Reads a table of cases from standard input and prints each with what reading says of it. A case is a line: the framing, A or B, a blank, and the bytes.
+#![tactic(auto)]
+
 mod answer;
 mod decode;
 

@@ -1,4 +1,6 @@
 // Telegrams: kinds and items, refusals, and the catalogue.
+#![tactic(auto)]
+
 pub mod item;
 pub mod kind;
 pub mod refusal;

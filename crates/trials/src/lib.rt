@@ -1,4 +1,6 @@
 // Trials of both framings on telegrams that are put together.
+#![tactic(auto)]
+
 #[cfg(test)]
 mod build;
 #[cfg(test)]

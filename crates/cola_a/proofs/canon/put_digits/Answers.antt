@@ -8,7 +8,7 @@ pub loop-i-preserved : goal.loop-i-preserved
 loop-i-preserved c = (
   omega arith,
   kept _ _ c.args.at c.loop-i.i (c.loop-i.i - 1) _ (omega arith) c.loop-i.invariant.1,
-  one_more _ _ c.args.at c.loop-i.i (c.loop-i.i - 1) c.loop-i.rest _ (omega arith) c.letter-of.ensures (omega arith) c.loop-i.invariant.2,
+  one_more _ _ c.args.at c.loop-i.i (c.loop-i.i - 1) c.loop-i.rest _ (omega arith) c.letter_of.ensures (omega arith) c.loop-i.invariant.2,
 )
 
 pub returns : goal.returns

@@ -2,4 +2,4 @@ use Rattle.spelling.proofs.Puts.{put_put}
 use Rattle.cola_a.proofs.canon.put_item.Goals as goal
 
 pub returns : goal.returns
-returns c = put_put _ _ c.put-blank-at.ensures c.put-letters.ensures
+returns c = put_put _ _ c.put_blank-at.ensures c.put_letters.ensures

@@ -13,13 +13,13 @@ sixteen Sixteen = omega arith
 next : (b : Base) (n v d r e : ℕ) → v < 16 ^ n → d < radix b → r ≡ radix b → e ≡ d → v * r + e < 16 ^ (n + 1)
 next b n v d r e h l p q = subst (λ x. v * x + e < 16 ^ (n + 1)) (sym p) (grown (radix b) n v e (sixteen b) h (omega (arith, l, q)))
 
-pub overflow-mul-value : goal.overflow-mul-value
-overflow-mul-value c =
+pub overflow_mul-value : goal.overflow_mul-value
+overflow_mul-value c =
     let g = small _ _ (omega (arith, c.in-Digit.ensures.3)) (next c.args.base _ _ _ _ _ c.loop-at.invariant.1 c.in-Digit.ensures.2 c.radix.ensures refl) in
     record { fits = omega arith }
 
-pub overflow-add-value : goal.overflow-add-value
-overflow-add-value c =
+pub overflow_add-value : goal.overflow_add-value
+overflow_add-value c =
     let g = small _ _ (omega (arith, c.in-Digit.ensures.3)) (next c.args.base _ _ _ _ _ c.loop-at.invariant.1 c.in-Digit.ensures.2 c.radix.ensures c.from.ensures) in
     record { fits = omega arith }
 

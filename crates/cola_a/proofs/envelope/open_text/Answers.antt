@@ -3,8 +3,8 @@ use Rattle.std.proofs.lemmas.List.{length-take, length-drop}
 use Rattle.cola_a.specs.Insides.{Below, mark_below}
 use Rattle.cola_a.proofs.envelope.open_text.Goals as goal
 
-pub overflow-add-at : goal.overflow-add-at
-overflow-add-at c =
+pub overflow_add-at : goal.overflow_add-at
+overflow_add-at c =
     let n = length c.args.bytes.now in
     let inner : List ℕ = take (n - 1 - 1) (drop 1 c.args.bytes.now) in
     let b : c.in-Some.at < 0 + length inner = subst (Below (0 + length inner)) (sym c.in-Some.ensures) (mark_below 0 inner) in

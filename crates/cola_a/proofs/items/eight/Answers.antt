@@ -11,8 +11,8 @@ low bs rest n v e l =
     let k : Kept bs (ran n v rest) = subst (Kept bs) e (run_kept 16 8 (omega arith) bs 0 0 (omega arith)) in
     subst (λ x. v < 16 ^ x) l k.0
 
-pub overflow-cast-result : goal.overflow-cast-result
-overflow-cast-result c =
+pub overflow_cast-result : goal.overflow_cast-result
+overflow_cast-result c =
     let l = low (drop c.args.from c.args.text.now) _ _ _ c.in-Some.ensures.0 c.if-digits-ne8.false in
     record { fits = omega (arith, l) }
 

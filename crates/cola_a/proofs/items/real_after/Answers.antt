@@ -8,4 +8,4 @@ pub returns-then-at-text : goal.returns-then-at-text
 returns-then-at-text c = at_drop_all real_after _ c.args.at (omega arith)
 
 pub returns-in-Plus : goal.returns-in-Plus
-returns-in-Plus c = stuck _ c.args.at (omega arith) eight 8 refl (λ rest. refl) (no_real _ _ c.lead-of.ensures c.in-Plus.is)
+returns-in-Plus c = stuck _ c.args.at (omega arith) eight 8 refl (λ rest. refl) (no_real _ _ c.lead_of.ensures c.in-Plus.is)

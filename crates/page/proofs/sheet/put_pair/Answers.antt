@@ -5,8 +5,8 @@ use Rattle.page.proofs.sheet.put_pair.Goals as goal
 
 pub returns : goal.returns
 returns c =
-    let a = pushed c.args.first.now refl c.in-ok-extend-from-slice.was c.extend-from-slice.ensures.items in
-    let b = pushed _ a c.in-ok-push.was c.push.ensures.items in
-    let d = pushed c.args.second.now b c.in-ok-extend-from-slice-2.was c.extend-from-slice-2.ensures.items in
-    let e = pushed _ d c.in-ok-push-2.was c.push-2.ensures.items in
+    let a = pushed c.args.first.now refl c.in_ok-extend_from_slice.was c.extend_from_slice.ensures.items in
+    let b = pushed _ a c.in_ok-push.was c.push.ensures.items in
+    let d = pushed c.args.second.now b c.in_ok-extend_from_slice-2.was c.extend_from_slice-2.ensures.items in
+    let e = pushed _ d c.in_ok-push-2.was c.push-2.ensures.items in
     e ∙ pair_joined (vec_items c.args.out.now) c.args.first.now c.args.second.now

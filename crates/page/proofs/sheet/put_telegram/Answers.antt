@@ -6,4 +6,4 @@ use Rattle.page.proofs.sheet.put_telegram.Goals as goal
 pub returns : goal.returns
 returns g c =
     let h = c.args.head in
-    then_added c.put-items.result (vec_items c.args.out.now) (vec_items c.put-title.new.out) (vec_items c.put-items.new.out) (title h.row) (lines (g.F.Meaning.left c.args.framing.now h.text.now h.start)) c.in-ok-put-title.ensures c.put-items.ensures
+    then_added c.put_items.result (vec_items c.args.out.now) (vec_items c.put_title.new.out) (vec_items c.put_items.new.out) (title h.row) (lines (g.F.Meaning.left c.args.framing.now h.text.now h.start)) c.in_ok-put_title.ensures c.put_items.ensures

@@ -22,8 +22,8 @@ module _ (body : List ℕ) (at n m : ℕ) (fits : at + n ≤ length body) (e : m
       cond-false _ _ _ (le-ltb (length (drop at body)) n (omega (arith, length-drop at body)))
       ∙ cond-false _ _ _ (ap (λ x. printable (take x (drop at body))) (sym e) ∙ p)
 
-pub returns-then-all-printable : goal.returns-then-all-printable
-returns-then-all-printable c = (good c.args.text.now c.args.at c.args.len (c.args.at + c.args.len - c.args.at) (omega arith) (omega arith) (sym c.if-all-printable.ensures), omega arith)
+pub returns-then-all_printable : goal.returns-then-all_printable
+returns-then-all_printable c = (good c.args.text.now c.args.at c.args.len (c.args.at + c.args.len - c.args.at) (omega arith) (omega arith) (sym c.if-all_printable.ensures), omega arith)
 
-pub returns-else-all-printable : goal.returns-else-all-printable
-returns-else-all-printable c = bad c.args.text.now c.args.at c.args.len (c.args.at + c.args.len - c.args.at) (omega arith) (omega arith) (sym c.if-all-printable.ensures)
+pub returns-else-all_printable : goal.returns-else-all_printable
+returns-else-all_printable c = bad c.args.text.now c.args.at c.args.len (c.args.at + c.args.len - c.args.at) (omega arith) (omega arith) (sym c.if-all_printable.ensures)

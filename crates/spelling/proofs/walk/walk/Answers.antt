@@ -10,15 +10,15 @@ pub pass-requires : goal.pass-requires
 pass-requires g c = (c.loop-want.invariant.inside, c.in-Some.ensures)
 
 pub loop-want-smaller : goal.loop-want-smaller
-loop-want-smaller g c = passed_less g.S.Spelling.finds c.args.text.now c.loop-want.at c.in-ok-next.next _ _ c.in-ok-next.ensures
+loop-want-smaller g c = passed_less g.S.Spelling.finds c.args.text.now c.loop-want.at c.in_ok-next.next _ _ c.in_ok-next.ensures
 
 pub loop-want-preserved : goal.loop-want-preserved
-loop-want-preserved g c = passing_more g.S.Spelling.finds c.args.text.now _ c.loop-want.at c.in-ok-next.next _ _ c.loop-want.invariant c.in-ok-next.ensures
+loop-want-preserved g c = passing_more g.S.Spelling.finds c.args.text.now _ c.loop-want.at c.in_ok-next.next _ _ c.loop-want.invariant c.in_ok-next.ensures
 
-pub returns-in-err-next : goal.returns-in-err-next
-returns-in-err-next g c =
-    let p = err_from_is_err_and c.from-residual.result c.from-residual.ensures.1 in
-    rw (p.1, p.2) (passing_fault g.S.Spelling.finds c.args.text.now c.args.row c.args.start c.new.result c.new.ensures c.loop-want.at _ c.loop-want.invariant _ _ c.in-err-next.ensures)
+pub returns-in_err-next : goal.returns-in_err-next
+returns-in_err-next g c =
+    let p = err_from_is_err_and c.from_residual.result c.from_residual.ensures.1 in
+    rw (p.1, p.2) (passing_fault g.S.Spelling.finds c.args.text.now c.args.row c.args.start c.new.result c.new.ensures c.loop-want.at _ c.loop-want.invariant _ _ c.in_err-next.ensures)
 
 pub returns : goal.returns
-returns g c = passing_all g.S.Spelling.finds c.args.text.now c.args.row c.args.start c.new.result c.new.ensures c.loop-want.at _ c.loop-want.invariant c.in-default.ensures
+returns g c = passing_all g.S.Spelling.finds c.args.text.now c.args.row c.args.start c.new.result c.new.ensures c.loop-want.at _ c.loop-want.invariant c.in_default.ensures

@@ -12,11 +12,11 @@ module _ (c n : List ℕ) (rs : List Row) (i : ℕ) (d : Row) (h : i < length rs
   miss : called c n (get_or rs i d) ≡ false → seek c n (drop i rs) ≡ seek c n (drop (i + 1) rs)
   miss e = at_drop_more (seek c n) rs i d h ∙ cond-false _ _ _ e
 
-pub returns-then-answers-to : goal.returns-then-answers-to
-returns-then-answers-to c = sym (hit c.args.command.now c.args.name.now c.args.rows.now c.loop-row.row-index _ (omega arith) (sym c.if-answers-to.ensures)) ∙ c.loop-row.invariant
+pub returns-then-answers_to : goal.returns-then-answers_to
+returns-then-answers_to c = sym (hit c.args.command.now c.args.name.now c.args.rows.now c.loop-row.row-index _ (omega arith) (sym c.if-answers_to.ensures)) ∙ c.loop-row.invariant
 
 pub loop-row-preserved : goal.loop-row-preserved
-loop-row-preserved c = sym (miss c.args.command.now c.args.name.now c.args.rows.now c.loop-row.row-index _ (omega arith) (sym c.if-answers-to.ensures)) ∙ c.loop-row.invariant
+loop-row-preserved c = sym (miss c.args.command.now c.args.name.now c.args.rows.now c.loop-row.row-index _ (omega arith) (sym c.if-answers_to.ensures)) ∙ c.loop-row.invariant
 
 pub returns : goal.returns
 returns c = sym (at_drop_all (seek c.args.command.now c.args.name.now) c.args.rows.now c.loop-row.row-index (omega arith)) ∙ c.loop-row.invariant

@@ -11,12 +11,12 @@ pub size-bytes-requires : goal.size-bytes-requires
 size-bytes-requires g c =
     omega (arith, gauge_long _ _ _ _ _ (values (g.T.Source.rest c.args.telegram.now c.in-Some.next)) (value_of c.in-Some.item.value) c.loop-item.invariant (ap values c.in-Some.ensures), c.requires.1)
 
-pub overflow-add-bytes : goal.overflow-add-bytes
-overflow-add-bytes g c =
+pub overflow_add-bytes : goal.overflow_add-bytes
+overflow_add-bytes g c =
     omega (arith, gauge_long _ _ _ _ _ (values (g.T.Source.rest c.args.telegram.now c.in-Some.next)) (value_of c.in-Some.item.value) c.loop-item.invariant (ap values c.in-Some.ensures), c.requires.1, c.size-bytes.ensures)
 
-pub overflow-add-items : goal.overflow-add-items
-overflow-add-items g c =
+pub overflow_add-items : goal.overflow_add-items
+overflow_add-items g c =
     omega (arith, gauge_few _ _ _ _ _ (values (g.T.Source.rest c.args.telegram.now c.in-Some.next)) (value_of c.in-Some.item.value) c.loop-item.invariant (ap values c.in-Some.ensures), c.requires.0)
 
 pub loop-item-preserved : goal.loop-item-preserved
@@ -25,5 +25,5 @@ loop-item-preserved g c =
 
 pub returns : goal.returns
 returns g c =
-    let e = gauge_all _ _ _ _ _ c.loop-item.invariant (ap values c.in-default.ensures) in
+    let e = gauge_all _ _ _ _ _ c.loop-item.invariant (ap values c.in_default.ensures) in
     record { items = e.0; bytes = e.1 }

@@ -9,8 +9,8 @@ gauge-items-requires g c =
     let t : Telegram = g.T.Source.telegram c.args.telegram.now in
     (omega (arith, items_few t c.requires), omega (arith, items_short g.S.Spelling.canon g.met.S.Spelling.slim t c.requires))
 
-pub whole-length-requires : goal.whole-length-requires
-whole-length-requires g c =
+pub whole_length-requires : goal.whole_length-requires
+whole_length-requires g c =
     let t : Telegram = g.T.Source.telegram c.args.telegram.now in
     omega (arith, items_short g.S.Spelling.canon g.met.S.Spelling.slim t c.requires, c.gauge-items.ensures.bytes)
 
@@ -19,5 +19,5 @@ returns g c =
     let t : Telegram = g.T.Source.telegram c.args.telegram.now in
     record {
       items = c.gauge-items.ensures.items;
-      bytes = c.whole-length.ensures ∙ whole_long g.S.Spelling.canon g.S.Spelling.wrap g.met.S.Spelling.snug t c.row.result c.gauge-items.result.bytes c.row.ensures c.gauge-items.ensures.bytes;
+      bytes = c.whole_length.ensures ∙ whole_long g.S.Spelling.canon g.S.Spelling.wrap g.met.S.Spelling.snug t c.row.result c.gauge-items.result.bytes c.row.ensures c.gauge-items.ensures.bytes;
     }

@@ -12,5 +12,5 @@ pub loop-left-preserved : goal.loop-left-preserved
 loop-left-preserved g c =
     filling_more _ _ _ _ _ (value_of c.in-Some.item.value) _ _ _ _ c.loop-left.invariant (take_one c.loop-left.left _ (values (g.T.Source.rest c.args.telegram.now c.in-Some.next)) _ (omega arith) (ap values c.in-Some.ensures)) _ _ c.put-place.ensures
 
-pub returns-in-default : goal.returns-in-default
-returns-in-default g c = filling_all _ _ _ _ _ _ _ _ c.loop-left.invariant (take_none c.loop-left.left _ (ap values c.in-default.ensures))
+pub returns-in_default : goal.returns-in_default
+returns-in_default g c = filling_all _ _ _ _ _ _ _ _ c.loop-left.invariant (take_none c.loop-left.left _ (ap values c.in_default.ensures))
