@@ -63,8 +63,8 @@ pub fn open_text(bytes: &[u8]) -> Result<Extent, Refusal>
 
 // Puts the envelope around the body that stands behind the first byte, up to a place.
 pub(crate) fn put_envelope(out: &mut [u8], to: usize)
-    requires le_to { 1 ≤ to }
-    requires to_in_bounds { to + 1 ≤ length out.old }
+    requires front { 1 ≤ to }
+    requires room { to + 1 ≤ length out.old }
     ensures { out.new ≡ enclosed wrap_text out.old to }
 {
     put_bytes(out, 0, &[START]);

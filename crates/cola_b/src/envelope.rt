@@ -77,8 +77,8 @@ pub fn open(input: &[u8]) -> Result<Extent, Refusal>
 
 // The body that stands behind the front, up to a place.
 fn body_in(out: &[u8], to: usize) -> &[u8]
-    requires le_to { 8 ≤ to }
-    requires to_in_bounds { to ≤ length out.now }
+    requires front { 8 ≤ to }
+    requires room { to ≤ length out.now }
     ensures { result.now ≡ take (to - 8) (drop 8 out.now) }
 {
     &out[FRONT..to]
@@ -86,9 +86,9 @@ fn body_in(out: &[u8], to: usize) -> &[u8]
 
 // Puts the envelope around the body that stands behind the front, up to a place.
 pub(crate) fn put_envelope(out: &mut [u8], to: usize)
-    requires le_to { 8 ≤ to }
-    requires to_in_bounds { to + 1 ≤ length out.old }
-    requires to_bound { to ≤ 65536 }
+    requires front { 8 ≤ to }
+    requires room { to + 1 ≤ length out.old }
+    requires short { to ≤ 65536 }
     ensures { out.new ≡ enclosed wrap_binary out.old to }
 {
     let body = body_in(out, to);

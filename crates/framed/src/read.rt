@@ -17,8 +17,8 @@ pub const LONGEST: usize = 65_536;
 
 // How many bytes stand before the next blank or the end.
 fn word_length(bytes: &[u8]) -> usize
-    ensures bytes_value { take result bytes.now ≡ word bytes.now }
-    ensures upper_bound { result ≤ length bytes.now }
+    ensures word { take result bytes.now ≡ word bytes.now }
+    ensures inside { result ≤ length bytes.now }
 {
     for (i, b) in bytes.iter().enumerate() {
         if *b == b' ' {

@@ -37,9 +37,9 @@ pub fn open(input: &[u8]) -> Result<Extent, Refusal>
 
 // Puts the length before the body that ends at a place.
 pub(crate) fn put_length(out: &mut [u8], to: usize)
-    requires le_to { 2 ≤ to }
-    requires to_in_bounds { to ≤ length out.old }
-    requires to_bound { to ≤ 65536 }
+    requires front { 2 ≤ to }
+    requires room { to ≤ length out.old }
+    requires short { to ≤ 65536 }
     ensures { out.new ≡ enclosed wrap_prefixed out.old to }
 {
     let length = to - FRONT;

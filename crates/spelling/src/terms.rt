@@ -64,9 +64,9 @@ pub trait Spelling {
 
     // Puts the envelope around a body that ends at a place.
     fn enclose(out: &mut [u8], to: usize)
-        requires before_le_to { wrap.before ≤ to }
-        requires after_in_bounds { to + wrap.after ≤ length out.old }
-        requires to_bound { to ≤ 65536 }
+        requires front { wrap.before ≤ to }
+        requires room { to + wrap.after ≤ length out.old }
+        requires short { to ≤ 65536 }
         ensures { out.new ≡ enclosed wrap out.old to };
 
     ghost inside: { Inside opens };

@@ -21,8 +21,8 @@ fn pass<'b, S: Spelling>(
     want: Want,
     parts: Parts<'b>,
 ) -> Result<(Cursor, Parts<'b>), Refusal>
-    requires place_in_bounds { at.place ≤ length text.now }
-    requires want_value { Some want ≡ wanted (todo at.progress.stage) }
+    requires inside { at.place ≤ length text.now }
+    requires asked { Some want ≡ wanted (todo at.progress.stage) }
     ensures { Passes S.Spelling.finds text.now at parts.entry result }
 {
     let place = at.place;

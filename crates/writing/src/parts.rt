@@ -70,7 +70,7 @@ fn put_position<S: Spelling>(
 // Writes the flag of a name or a comment and, where there is one, its length and its text.
 fn put_label<S: Spelling>(label: Option<&[u8]>, out: &mut [u8], at: usize) -> usize
     requires sized { Sized label }
-    requires label_in_bounds { at + length (written S.Spelling.canon false (label_items label)) ≤ length out.old }
+    requires room { at + length (written S.Spelling.canon false (label_items label)) ≤ length out.old }
     ensures { Put out.old at (written S.Spelling.canon false (label_items label.entry)) out.new result }
 {
     match label {
@@ -121,7 +121,7 @@ pub(crate) fn put_parts<S: Spelling>(
     at: usize,
 ) -> usize
     requires labelled { Labelled parts }
-    requires parts_in_bounds { at + length (written S.Spelling.canon first (parts_items parts)) ≤ length out.old }
+    requires room { at + length (written S.Spelling.canon first (parts_items parts)) ≤ length out.old }
     ensures { Put out.old at (written S.Spelling.canon first (parts_items parts.entry)) out.new result }
 {
     let at = put_position::<S>(first, parts.position, out, at);

@@ -25,8 +25,8 @@ struct Measure {
 
 // How many items a telegram has, and how many bytes they take.
 fn gauge<S: Spelling, T: Source>(telegram: &T) -> Measure
-    requires telegram_len_bound { length (T.Source.telegram telegram.now).items ≤ 65536 }
-    requires telegram_len_bound_2 { length (written S.Spelling.canon true (T.Source.telegram telegram.now).items) ≤ 65536 }
+    requires few { length (T.Source.telegram telegram.now).items ≤ 65536 }
+    requires short { length (written S.Spelling.canon true (T.Source.telegram telegram.now).items) ≤ 65536 }
     ensures items { result.items ≡ length (T.Source.telegram telegram.now).items }
     ensures bytes { result.bytes ≡ length (written S.Spelling.canon true (T.Source.telegram telegram.now).items) }
 {
@@ -83,10 +83,10 @@ fn put_body<S: Spelling, T: Source>(
     out: &mut [u8],
     at: usize,
 ) -> usize
-    requires value { items ≡ length (T.Source.telegram telegram.now).items }
+    requires counted { items ≡ length (T.Source.telegram telegram.now).items }
     requires told { Told (T.Source.telegram telegram.now) parts }
     requires labelled { Labelled parts }
-    requires telegram_in_bounds { at + length (body_of S.Spelling.canon (T.Source.telegram telegram.now)) ≤ length out.old }
+    requires room { at + length (body_of S.Spelling.canon (T.Source.telegram telegram.now)) ≤ length out.old }
     ensures { Put out.old at (body_of S.Spelling.canon (T.Source.telegram telegram.now)) out.new result }
 {
     let row = telegram.row();
@@ -147,8 +147,8 @@ fn fits(out: &[u8], bytes: usize) -> Result<(), Refusal>
 fn put_whole<S: Spelling, T: Source>(telegram: &T, parts: Parts<'_>, items: usize, out: &mut [u8])
     requires within { Within (T.Source.telegram telegram.now) }
     requires told { Told (T.Source.telegram telegram.now) parts }
-    requires value { items ≡ length (T.Source.telegram telegram.now).items }
-    requires telegram_in_bounds { length (spelled S.Spelling.canon S.Spelling.wrap (T.Source.telegram telegram.now)) ≤ length out.old }
+    requires counted { items ≡ length (T.Source.telegram telegram.now).items }
+    requires room { length (spelled S.Spelling.canon S.Spelling.wrap (T.Source.telegram telegram.now)) ≤ length out.old }
     ensures { out.new ≡ spelled S.Spelling.canon S.Spelling.wrap (T.Source.telegram telegram.now) ++ drop (length (spelled S.Spelling.canon S.Spelling.wrap (T.Source.telegram telegram.now))) out.old }
 {
     let (before, _) = S::margins();

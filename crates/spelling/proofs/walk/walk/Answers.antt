@@ -7,7 +7,7 @@ pub loop-want-init : goal.loop-want-init
 loop-want-init g c = passing_none g.S.Spelling.finds c.args.text.now c.args.row c.args.start c.new.result c.new.ensures _ c.requires c.new-parts.ensures
 
 pub pass-requires : goal.pass-requires
-pass-requires g c = (c.loop-want.invariant.inside, c.in-Some.ensures)
+pass-requires g c = record { inside = c.loop-want.invariant.inside; asked = c.in-Some.ensures }
 
 pub loop-want-smaller : goal.loop-want-smaller
 loop-want-smaller g c = passed_less g.S.Spelling.finds c.args.text.now c.loop-want.at c.in_ok-next.next _ _ c.in_ok-next.ensures
