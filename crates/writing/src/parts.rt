@@ -26,11 +26,11 @@ pub(crate) fn put_all<S: Spelling>(
     ensures { Put out.old at (written S.Spelling.canon first (map value_of items.now)) out.new result }
 {
     let mut place = at;
-    let mut initial = first;
+    let mut leads = first;
     let mut i = 0;
     while i < items.len() {
-        place = S::put(initial, items[i], out, place);
-        initial = false;
+        place = S::put(leads, items[i], out, place);
+        leads = false;
         i += 1;
     }
     place

@@ -9,15 +9,15 @@ loop-item-init g c = gauge_none g.S.Spelling.canon _ _ (ap values c.start-at.ens
 
 pub size-bytes-requires : goal.size-bytes-requires
 size-bytes-requires g c =
-    omega (arith, gauge_long _ _ _ _ _ (values (g.T.Source.rest c.args.telegram.now c.in-Some.next)) (value_of c.in-Some.item.value) c.loop-item.invariant (ap values c.in-Some.ensures), c.requires.1)
+    omega (arith, gauge_long _ _ _ _ _ (values (g.T.Source.rest c.args.telegram.now c.in-Some.next)) (value_of c.in-Some.item.value) c.loop-item.invariant (ap values c.in-Some.ensures), c.requires.short)
 
 pub overflow_add-bytes : goal.overflow_add-bytes
 overflow_add-bytes g c =
-    omega (arith, gauge_long _ _ _ _ _ (values (g.T.Source.rest c.args.telegram.now c.in-Some.next)) (value_of c.in-Some.item.value) c.loop-item.invariant (ap values c.in-Some.ensures), c.requires.1, c.size-bytes.ensures)
+    omega (arith, gauge_long _ _ _ _ _ (values (g.T.Source.rest c.args.telegram.now c.in-Some.next)) (value_of c.in-Some.item.value) c.loop-item.invariant (ap values c.in-Some.ensures), c.requires.short, c.size-bytes.ensures)
 
 pub overflow_add-items : goal.overflow_add-items
 overflow_add-items g c =
-    omega (arith, gauge_few _ _ _ _ _ (values (g.T.Source.rest c.args.telegram.now c.in-Some.next)) (value_of c.in-Some.item.value) c.loop-item.invariant (ap values c.in-Some.ensures), c.requires.0)
+    omega (arith, gauge_few _ _ _ _ _ (values (g.T.Source.rest c.args.telegram.now c.in-Some.next)) (value_of c.in-Some.item.value) c.loop-item.invariant (ap values c.in-Some.ensures), c.requires.few)
 
 pub loop-item-preserved : goal.loop-item-preserved
 loop-item-preserved g c =

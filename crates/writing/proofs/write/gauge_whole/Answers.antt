@@ -7,7 +7,7 @@ use Rattle.writing.proofs.write.gauge_whole.Goals as goal
 pub gauge-items-requires : goal.gauge-items-requires
 gauge-items-requires g c =
     let t : Telegram = g.T.Source.telegram c.args.telegram.now in
-    (omega (arith, items_few t c.requires), omega (arith, items_short g.S.Spelling.canon g.met.S.Spelling.slim t c.requires))
+    (record { few = omega (arith, items_few t c.requires); short = omega (arith, items_short g.S.Spelling.canon g.met.S.Spelling.slim t c.requires) })
 
 pub whole_length-requires : goal.whole_length-requires
 whole_length-requires g c =
