@@ -4,7 +4,7 @@ ghost use Rattle.cola_a.specs.Canon.{canon_text};
 ghost use Rattle.cola_a.specs.Envelope.{open_text, wrap_text};
 ghost use Rattle.cola_a.specs.Items.{find_text};
 ghost use Rattle.cola_a.specs.Insides.{text_inside};
-ghost use Rattle.cola_a.specs.Sounds.{text_sound};
+ghost use Rattle.cola_a.specs.Sounds.{text_sound, text_adjoining};
 ghost use Rattle.cola_a.specs.Backs.{text_written};
 ghost use Rattle.cola_a.specs.Wraps.{text_slim, text_parted, text_snug, text_reopens};
 
@@ -33,6 +33,8 @@ impl Spelling for Letters {
     ghost inside = { text_inside };
 
     ghost sound = { text_sound };
+
+    ghost adjoining = { text_adjoining };
 
     ghost back = { text_written };
 

@@ -3,7 +3,7 @@ ghost use Rattle.std.specs.Prelude.{true};
 ghost use Rattle.cola_b.specs.Canon.{canon_binary};
 ghost use Rattle.cola_b.specs.Items.{find_binary};
 ghost use Rattle.cola_b.specs.Envelope.{open_binary, wrap_binary};
-ghost use Rattle.cola_b.specs.Sounds.{binary_inside, binary_sound};
+ghost use Rattle.cola_b.specs.Sounds.{binary_inside, binary_sound, binary_adjoining};
 ghost use Rattle.cola_b.specs.Backs.{binary_written};
 ghost use Rattle.cola_b.specs.Wraps.{binary_slim, binary_parted, binary_snug, binary_reopens};
 
@@ -30,6 +30,8 @@ impl Spelling for Octets {
     ghost inside = { binary_inside };
 
     ghost sound = { binary_sound };
+
+    ghost adjoining = { binary_adjoining };
 
     ghost back = { binary_written };
 

@@ -11,7 +11,8 @@ use Rattle.layout.specs.Source.{Telegram, Fits, Within, values}
 use Rattle.spelling.specs.Spell.{Opens, Find}
 use Rattle.spelling.specs.Canon.{Canon, written, Back}
 use Rattle.spelling.specs.Write.{Wrap, Snug, Slim, Parted, Reopens, body_of, spelled}
-use Rattle.spelling.proofs.Rounds.{spans_of, walked}
+use Rattle.spelling.specs.Round.{spans_of}
+use Rattle.spelling.proofs.Rounds.{walked}
 use Rattle.spelling.proofs.Rows.{command_long, name_dark, own_row}
 use Rattle.spelling.proofs.Reaches.{short}
 use Rattle.framing.specs.Read.{Reading, accepted, word, head, after_head, is_none, without_blank, judged, itemized, headed, unwrapped, reads, telegram, Means}

@@ -7,7 +7,7 @@ use Rattle.telegram.specs.declared.item.Want.{Want}
 use Rattle.telegram.specs.Value.{Value, number}
 use Rattle.layout.specs.declared.cursor.Cursor.{Cursor}
 use Rattle.layout.specs.Layout.{Layout, State, wanted, advance}
-use Rattle.spelling.specs.Spell.{Spelt, found, faulty, Find, Fair, Sound, verbatim}
+use Rattle.spelling.specs.Spell.{Spelt, found, faulty, Find, Adjoins, Adjoining, verbatim}
 use Rattle.spelling.specs.Walk.{Walk, more, closed, asked, taken, fit, seen, walk, left}
 use Rattle.framing.specs.Read.{cut, Stands, Verbatim}
 
@@ -47,7 +47,7 @@ closed_verbatim : (t : List ℕ) (n : ℕ) (bs : List ℕ) → Verbatim t (close
 closed_verbatim t n [] = tt
 closed_verbatim t n (b ∷ bs) = tt
 
-module _ (find : Find) (sound : Sound find) (t : List ℕ) where
+module _ (find : Find) (adjoining : Adjoining find) (t : List ℕ) where
   pub walk_verbatim : (m : ℕ) (first : Bool) (l : Layout) (r : ℕ) (pre bs : List ℕ) → t ≡ pre ++ bs → Verbatim t (walk find m (length t) first l r bs).items
   unfolding walk
   walk_verbatim zero first l r pre bs e = closed_verbatim t (length t) bs
@@ -59,17 +59,17 @@ module _ (find : Find) (sound : Sound find) (t : List ℕ) where
         | None ↦ tt
         | Some s ↦ (stands t pre bs e v rest lead f, walk_verbatim m false s.todo s.room ((pre ++ lead) ++ verbatim v) rest (behind t pre bs e v rest lead f))
       ] in
-      let finds : (w : Want) (x : Spelt) → Fair w bs x → Verbatim t (taken (n - length bs) (λ v rest. fit (n - length bs) (next v rest) (advance l r (number v))) x).items =
-      λ w x. elim x as (λ x. Fair w bs x → Verbatim t (taken (n - length bs) (λ v rest. fit (n - length bs) (next v rest) (advance l r (number v))) x).items) [
+      let finds : (w : Want) (x : Spelt) → Adjoins bs x → Verbatim t (taken (n - length bs) (λ v rest. fit (n - length bs) (next v rest) (advance l r (number v))) x).items =
+      λ w x. elim x as (λ x. Adjoins bs x → Verbatim t (taken (n - length bs) (λ v rest. fit (n - length bs) (next v rest) (advance l r (number v))) x).items) [
         | faulty f ↦ λ h. tt
-        | found v rest ↦ λ h. fits v rest h.3.0 h.3.1 (advance l r (number v))
+        | found v rest ↦ λ h. fits v rest h.0 h.1 (advance l r (number v))
       ] in
       let asks : (o : Option Want) → Verbatim t (asked (closed n bs) (λ w. taken (n - length bs) (λ v rest. fit (n - length bs) (next v rest) (advance l r (number v))) (find first w bs)) o).items =
       λ o. elim o as (λ o. Verbatim t (asked (closed n bs) (λ w. taken (n - length bs) (λ v rest. fit (n - length bs) (next v rest) (advance l r (number v))) (find first w bs)) o).items) [
         | None ↦ closed_verbatim t n bs
-        | Some w ↦ finds w (find first w bs) (sound first w bs)
+        | Some w ↦ finds w (find first w bs) (adjoining first w bs)
       ] in
       asks (wanted l)
 
-pub left_verbatim : (find : Find) → Sound find → (t : List ℕ) (at : Cursor) → Verbatim t (left find t at)
-left_verbatim find sound t at = walk_verbatim find sound t _ _ _ _ (take at.place t) (drop at.place t) (sym (take-append-drop at.place t))
+pub left_verbatim : (find : Find) → Adjoining find → (t : List ℕ) (at : Cursor) → Verbatim t (left find t at)
+left_verbatim find adjoining t at = walk_verbatim find adjoining t _ _ _ _ (take at.place t) (drop at.place t) (sym (take-append-drop at.place t))

@@ -28,17 +28,17 @@ impl<S: Spelling> Meaning for Framed<S> {
     ghost left = { λ _. left_in S.Spelling.finds };
 
     ghost spells = { λ _. spelled S.Spelling.canon S.Spelling.wrap };
+}
 
+impl<S: Spelling> Framing for Framed<S> {
     ghost keeps = { λ f bs. keeps_in S.Spelling.opens S.Spelling.spare S.Spelling.finds S.Spelling.inside S.Spelling.sound bs };
 
     ghost back = { λ f t h.
         returns_in S.Spelling.opens S.Spelling.spare S.Spelling.finds S.Spelling.canon S.Spelling.wrap
         S.Spelling.back S.Spelling.slim S.Spelling.parted S.Spelling.snug S.Spelling.reopens t h };
 
-    ghost verbatim = { λ f bs at. left_verbatim S.Spelling.finds S.Spelling.sound bs at };
-}
+    ghost verbatim = { λ f bs at. left_verbatim S.Spelling.finds S.Spelling.adjoining bs at };
 
-impl<S: Spelling> Framing for Framed<S> {
     fn read<'b>(&self, bytes: &'b [u8]) -> Result<Head<'b>, Refusal> {
         read::<S>(bytes)
     }

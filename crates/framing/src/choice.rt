@@ -21,24 +21,24 @@ impl<F: Framing, G: Framing> Meaning for Choice<F, G> {
     ghost left = { λ c. elim c [ First f ↦ F.Meaning.left f | Second g ↦ G.Meaning.left g ] };
 
     ghost spells = { λ c. elim c [ First f ↦ F.Meaning.spells f | Second g ↦ G.Meaning.spells g ] };
-
-    ghost keeps = { elim [
-      | First f ↦ λ bs. F.Meaning.keeps f bs
-      | Second h ↦ λ bs. G.Meaning.keeps h bs
-    ] };
-
-    ghost back = { elim [
-      | First f ↦ λ t w. F.Meaning.back f t w
-      | Second h ↦ λ t w. G.Meaning.back h t w
-    ] };
-
-    ghost verbatim = { elim [
-      | First f ↦ λ bs at. F.Meaning.verbatim f bs at
-      | Second h ↦ λ bs at. G.Meaning.verbatim h bs at
-    ] };
 }
 
 impl<F: Framing, G: Framing> Framing for Choice<F, G> {
+    ghost keeps = { elim [
+      | First f ↦ λ bs. F.Framing.keeps f bs
+      | Second h ↦ λ bs. G.Framing.keeps h bs
+    ] };
+
+    ghost back = { elim [
+      | First f ↦ λ t w. F.Framing.back f t w
+      | Second h ↦ λ t w. G.Framing.back h t w
+    ] };
+
+    ghost verbatim = { elim [
+      | First f ↦ λ bs at. F.Framing.verbatim f bs at
+      | Second h ↦ λ bs at. G.Framing.verbatim h bs at
+    ] };
+
     fn read<'b>(&self, bytes: &'b [u8]) -> Result<Head<'b>, Refusal> {
         match self {
             Choice::First(framing) => framing.read(bytes),

@@ -22,15 +22,6 @@ pub trait Meaning {
 
     // The one spelling of a telegram that is written.
     ghost spells: { Self → Telegram → List ℕ };
-
-    // What is accepted is within the catalogue and the limits, and its spans join in order to the body; a refusal is one of 1 to 8.
-    ghost keeps: { (f : Self) (bs : List ℕ) → Keeps bs (reads f bs) };
-
-    // The canonical spelling of every telegram within the catalogue and the limits is accepted, and means that telegram.
-    ghost back: { (f : Self) (t : Telegram) → Within t → Means t (reads f (spells f t)) };
-
-    // The texts among the items stand in the input as they are.
-    ghost verbatim: { (f : Self) (bs : List ℕ) (at : At) → Verbatim bs (left f bs at) };
 }
 
 pub trait Framing: Meaning {
@@ -55,4 +46,15 @@ pub trait Framing: Meaning {
         requires within { Within (T.Source.telegram telegram.now) }
         requires told { Told (T.Source.telegram telegram.now) parts }
         ensures { Wrote (Self.Meaning.spells self.now (T.Source.telegram telegram.now)) out.old out.new result };
+
+    // What every framing shows.
+
+    // What is accepted is within the catalogue and the limits, and its spans join in order to the body; a refusal is one of 1 to 8.
+    ghost keeps: { (f : Self) (bs : List ℕ) → Keeps bs (Self.Meaning.reads f bs) };
+
+    // The canonical spelling of every telegram within the catalogue and the limits is accepted, and means that telegram.
+    ghost back: { (f : Self) (t : Telegram) → Within t → Means t (Self.Meaning.reads f (Self.Meaning.spells f t)) };
+
+    // The texts among the items stand in the input as they are.
+    ghost verbatim: { (f : Self) (bs : List ℕ) (at : At) → Verbatim bs (Self.Meaning.left f bs at) };
 }

@@ -4,7 +4,7 @@ ghost use Rattle.cola_b.specs.Canon.{canon_binary};
 ghost use Rattle.cola_b.specs.Items.{find_binary};
 ghost use Rattle.prefixed.specs.Envelope.{open_prefixed, wrap_prefixed};
 ghost use Rattle.prefixed.specs.Wraps.{prefixed_inside, prefixed_snug, prefixed_reopens};
-ghost use Rattle.cola_b.specs.Sounds.{binary_sound};
+ghost use Rattle.cola_b.specs.Sounds.{binary_sound, binary_adjoining};
 ghost use Rattle.cola_b.specs.Backs.{binary_written};
 ghost use Rattle.cola_b.specs.Wraps.{binary_slim, binary_parted};
 
@@ -32,6 +32,8 @@ impl Spelling for Prefixed {
     ghost inside = { prefixed_inside };
 
     ghost sound = { binary_sound };
+
+    ghost adjoining = { binary_adjoining };
 
     ghost back = { binary_written };
 

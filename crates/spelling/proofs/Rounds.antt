@@ -8,12 +8,8 @@ use Rattle.layout.proofs.Times.{falls, heavy}
 use Rattle.spelling.specs.Spell.{Find}
 use Rattle.spelling.specs.Canon.{Canon, written, Back}
 use Rattle.spelling.specs.Walk.{Walk, whole, more, seen, walk}
+use Rattle.spelling.specs.Round.{spans_of, Round}
 use Rattle.spelling.proofs.Walks.{turn_end, turn_more}
-
--- the places of values in their canonical spelling, at the end of n bytes
-abbrev pub spans_of : Canon → ℕ → Bool → List Value → List Seen
-spans_of canon n first [] = []
-spans_of canon n first (v ∷ vs) = seen n v (written canon first (v ∷ vs)) (written canon false vs) ∷ spans_of canon n false vs
 
 took : (o : Option State) (P : State → Type 0) → When o P → (s : State) × (o ≡ Some s) × P s
 took None P h = absurd h
@@ -28,3 +24,9 @@ module _ (find : Find) (canon : Canon) (back : Back find canon) where
       let f = falls l r (number v) s.0 s.1 in
       turn_more find n first l r (written canon first (v ∷ vs)) t (want v) v (written canon false vs) s.0 h.0 (back first v vs h.1) s.1
       ∙ ap (more (seen n v (written canon first (v ∷ vs)) (written canon false vs))) (walked n t false s.0.todo s.0.room vs s.2 (omega arith))
+
+  pub round : Round find canon
+  round row front vs h =
+      let n = length (front ++ written canon true vs) in
+      ap (walk find (weight (layout row) + limit) n true (layout row) limit) (drop_at front (written canon true vs) (length front) refl)
+      ∙ walked n (weight (layout row) + limit) true (layout row) limit vs h (omega arith)

@@ -1,5 +1,6 @@
 -- The turns of a check: what was passed, and what is still to come. Assumes nothing.
 use Rattle.std.proofs.Common.{◌≡◌, ℕ, ◌+◌, ◌<◌, ◌≤◌, true, List, [], length, Some, None, Ok, sym, refl, ap, ◌∙◌, subst}
+use Rattle.std.proofs.lemmas.Bool.{lt-ltb, le-ltb}
 use Rattle.telegram.specs.declared.item.Want.{Want}
 use Rattle.layout.specs.declared.cursor.Cursor.{Cursor}
 use Rattle.telegram.specs.declared.row.Row.{Row}
@@ -16,7 +17,7 @@ use Rattle.layout.proofs.Times.{falls}
 use Rattle.layout.proofs.Tellings.{Tale, tale_none, turn, told, kept_scan}
 use Rattle.spelling.specs.Spell.{Find}
 use Rattle.spelling.specs.Walk.{Walk, whole, halt, stop, onward}
-use Rattle.spelling.specs.Check.{Passed, Walks, starting}
+use Rattle.spelling.specs.Check.{Passed, Walks, Checks, over, starting}
 use Rattle.spelling.proofs.Walks.{on_end, begun, closed_over, closed_items}
 
 -- a check that began at a cursor has come to another, with the parts so far
@@ -42,8 +43,8 @@ module _ (find : Find) (t : List ℕ) (row : Row) (start : ℕ) (p : Progress) (
     pub passing_fault : (n place : ℕ) → onward find t at ≡ stop (halt n place) → (starting find row t start).ending ≡ halt n place
     passing_fault n place e = ap (λ w. w.ending) (sym begins) ∙ sym h.ending ∙ ap (λ w. w.ending) e
 
-    pub passing_all : None ≡ wanted (todo at.progress.stage) → Walks find row t start (Ok (at.place, parts))
-    passing_all w =
+    pub passing_walks : None ≡ wanted (todo at.progress.stage) → Walks find row t start (Ok (at.place, parts))
+    passing_walks w =
         let e = on_end find t at (sym w) in
         let none : values (onward find t at).items ≡ [] = ap (λ w. values w.items) e ∙ ap values (closed_items (length t) _) in
         let tells = told (scanning p.stage) (todo p.stage) (values (onward find t from).items) (values (onward find t at).items) at.progress.stage at.progress.room parts h.scan (sym w) none h.tale in (
@@ -52,6 +53,12 @@ module _ (find : Find) (t : List ℕ) (row : Row) (start : ℕ) (p : Progress) (
               (subst (λ x. Tells x (layout row) (values (onward find t from).items) parts) b.lands.scan
               (subst (λ x. Tells (scanning p.stage) x (values (onward find t from).items) parts) b.lands.at tells)),
         )
+
+    pub passing_rest : None ≡ wanted (todo at.progress.stage) → at.place < length t → (starting find row t start).ending ≡ halt (reason_number Rest) at.place
+    passing_rest w l = (passing_walks w).0 ∙ ap (over at.place) (lt-ltb at.place (length t) l)
+
+    pub passing_all : None ≡ wanted (todo at.progress.stage) → length t ≤ at.place → Checks find row t start (Ok parts)
+    passing_all w l = let all = passing_walks w in (all.0 ∙ ap (over at.place) (le-ltb at.place (length t) l), all.1)
 
 pub passing_more : (find : Find) (t : List ℕ) (from at next : Cursor) (parts after : Parts) → Passing find t from at parts → Passed find t at parts next after → Passing find t from next after
 passing_more find t from at next parts after h x =

@@ -111,10 +111,10 @@ module _ (find : Find) (t : List ℕ) (at : Cursor) where
 pub alike : (find : Find) (t : List ℕ) (at : Cursor) (to : ℕ) → drop to t ≡ drop at.place t → onward find t at ≡ onward find t (record { place = to; first = at.first; progress = at.progress })
 alike find t at to e = ap (walk find (weight (todo at.progress.stage) + at.progress.room) (length t) at.first (todo at.progress.stage) at.progress.room) (sym e)
 
-closed_rest : (t : List ℕ) (at : ℕ) → at < length t → (closed (length t) (drop at t)).ending ≡ halt (reason_number Rest) at
+pub closed_rest : (t : List ℕ) (at : ℕ) → at < length t → (closed (length t) (drop at t)).ending ≡ halt (reason_number Rest) at
 closed_rest t at h = at_drop_more (λ bs. (closed (length t) bs).ending) t at 0 h ∙ ap (halt (reason_number Rest)) (omega (arith, length-drop (at + 1) t))
 
-closed_none : (t : List ℕ) (at : ℕ) → length t ≤ at → (closed (length t) (drop at t)).ending ≡ whole
+pub closed_none : (t : List ℕ) (at : ℕ) → length t ≤ at → (closed (length t) (drop at t)).ending ≡ whole
 closed_none t at h = at_drop_all (λ bs. (closed (length t) bs).ending) t at h
 
 pub closed_over : (t : List ℕ) (at : ℕ) → (closed (length t) (drop at t)).ending ≡ over at (ltb at (length t))

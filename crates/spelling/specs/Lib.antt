@@ -3,3 +3,4 @@ pub mod Canon
 pub mod Walk
 pub mod Check
 pub mod Write
+pub mod Round

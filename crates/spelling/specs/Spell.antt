@@ -49,13 +49,21 @@ verbatim (text s) = s
 abbrev pub Follows : List ℕ → Value → List ℕ → Type 0
 Follows bs v rest = (lead : List ℕ) × (bs ≡ lead ++ (verbatim v ++ rest))
 
--- what is found is what was wanted, and good; what follows it is no longer than all, and a text stands right before it
+-- what is found is what was wanted, and good; what follows it is no longer than all
 abbrev pub Fair : Want → List ℕ → Spelt → Type 0
-Fair w bs (found v rest) = (want v ≡ w) × Good v × (length rest ≤ length bs) × Follows bs v rest
+Fair w bs (found v rest) = (want v ≡ w) × Good v × (length rest ≤ length bs)
 Fair w bs (faulty e) = Unit {0}
 
 abbrev pub Sound : Find → Type 0
 Sound find = (first : Bool) (w : Want) (bs : List ℕ) → Fair w bs (find first w bs)
+
+-- a text that is found stands right before what follows it
+abbrev pub Adjoins : List ℕ → Spelt → Type 0
+Adjoins bs (found v rest) = Follows bs v rest
+Adjoins bs (faulty e) = Unit {0}
+
+abbrev pub Adjoining : Find → Type 0
+Adjoining find = (first : Bool) (w : Want) (bs : List ℕ) → Adjoins bs (find first w bs)
 
 -- the answer that finding gives, in a text of which the item's bytes are a part
 abbrev pub Finds : List ℕ → Spelt → Result (Item × ℕ) Fault → Type 0

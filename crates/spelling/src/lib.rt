@@ -2,6 +2,7 @@
 #![tactic(auto)]
 
 pub mod put;
+pub mod round;
 pub mod terms;
 pub mod text;
 pub mod walk;

@@ -2,7 +2,7 @@
 ghost use Rattle.std.specs.Prelude.{◌≡◌, ℕ, ◌+◌, ◌-◌, ◌≤◌, Bool, length, drop};
 ghost use Rattle.telegram.specs.Value.{value_of};
 ghost use Rattle.spelling.specs.Canon.{Canon, Back};
-ghost use Rattle.spelling.specs.Spell.{Opens, Find, Inside, Sound, Opening, Finds};
+ghost use Rattle.spelling.specs.Spell.{Opens, Find, Inside, Sound, Adjoining, Opening, Finds};
 ghost use Rattle.spelling.specs.Write.{Wrap, Snug, Slim, Parted, Reopens, Put, enclosed};
 
 use telegram::item::{Item, Want};
@@ -72,6 +72,8 @@ pub trait Spelling {
     ghost inside: { Inside opens };
 
     ghost sound: { Sound finds };
+
+    ghost adjoining: { Adjoining finds };
 
     ghost back: { Back finds canon };
 

@@ -67,7 +67,7 @@ const ROWS: [Row; 27] = [
 ];
 
 // Whether two byte strings are equal.
-fn same(a: &[u8], b: &[u8]) -> bool
+pub fn same(a: &[u8], b: &[u8]) -> bool
     ensures { result ≡ bytes_eq a.now b.now }
 {
     a == b

@@ -1,6 +1,6 @@
 use Rattle.std.proofs.Common.{◌≡◌, sym, refl, ap, ◌∙◌, subst}
 use Rattle.std.proofs.lemmas.Result.{err_from_is_err_and}
-use Rattle.spelling.proofs.Turns.{passing_none, passing_more, passing_fault, passing_all, passed_less}
+use Rattle.spelling.proofs.Turns.{passing_none, passing_more, passing_fault, passing_walks, passed_less}
 use Rattle.spelling.proofs.walk.walk.Goals as goal
 
 pub loop-want-init : goal.loop-want-init
@@ -21,4 +21,4 @@ returns-in_err-next g c =
     rw (p.1, p.2) (passing_fault g.S.Spelling.finds c.args.text.now c.args.row c.args.start c.new.result c.new.ensures c.loop-want.at _ c.loop-want.invariant _ _ c.in_err-next.ensures)
 
 pub returns : goal.returns
-returns g c = passing_all g.S.Spelling.finds c.args.text.now c.args.row c.args.start c.new.result c.new.ensures c.loop-want.at _ c.loop-want.invariant c.in_default.ensures
+returns g c = passing_walks g.S.Spelling.finds c.args.text.now c.args.row c.args.start c.new.result c.new.ensures c.loop-want.at _ c.loop-want.invariant c.in_default.ensures
