@@ -1,4 +1,5 @@
 // Every spelling is a framing.
+ghost use Rattle.std.specs.Prelude.{◌≡◌};
 ghost use Rattle.spelling.specs.Walk.{left as left_in};
 ghost use Rattle.spelling.specs.Write.{spelled};
 ghost use Rattle.framing.specs.Read.{reads as reads_in};
@@ -20,6 +21,14 @@ use telegram::refusal::Refusal;
 #[derive(Clone, Copy)]
 pub struct Framed<S> {
     pub spelling: S,
+}
+
+impl<S: Spelling> Framed<S> {
+    pub fn new(spelling: S) -> Framed<S>
+        ensures { result.spelling ≡ spelling }
+    {
+        Framed { spelling }
+    }
 }
 
 impl<S: Spelling> Meaning for Framed<S> {
