@@ -4,7 +4,7 @@ use Rattle.framed.proofs.read.row_of.Goals as goal
 
 pub returns-in-Some : goal.returns-in-Some
 returns-in-Some c =
-    head_some c.args.body.now c.word_length-n.result _ (omega arith) (omega arith) c.word_length-n.ensures.0 c.in-Some.row c.word_length-n.ensures.1 (omega arith) c.in-Some.ensures
+    head_some c.args.body.now c.word_length-n.result _ (omega arith) (omega arith) c.word_length-n.ensures.word c.in-Some.row c.word_length-n.ensures.inside (omega arith) c.in-Some.ensures
 
 pub returns-in-None : goal.returns-in-None
-returns-in-None c = sym (head_named c.args.body.now c.word_length-n.result _ (omega arith) (omega arith) c.word_length-n.ensures.0) ∙ sym c.in-None.ensures
+returns-in-None c = sym (head_named c.args.body.now c.word_length-n.result _ (omega arith) (omega arith) c.word_length-n.ensures.word) ∙ sym c.in-None.ensures
