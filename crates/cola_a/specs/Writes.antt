@@ -4,6 +4,7 @@ use Rattle.std.proofs.Common.{sym, ap, subst, ◌∙◌, arith}
 use Rattle.std.proofs.lemmas.List.{map_push, append_assoc, drop-set, take-set, take-take, take-append-drop, length-map, length_push}
 use Rattle.std.proofs.lemmas.Bool.Decides.{nat_tests}
 use Rattle.spelling.specs.Canon.{fixed}
+use Rattle.spelling.specs.Write.{Put}
 use Rattle.spelling.proofs.Digitals.{length_fixed}
 use Rattle.cola_a.specs.Canon.{letter, hexadecimals, hex_digits}
 
@@ -37,3 +38,12 @@ all out old ys at i v e front back =
     sym (take-append-drop at out)
     ∙ ap (λ l. l ++ drop at out) (subst (λ x. take x out ≡ take x old) z front)
     ∙ ap (λ l. take at old ++ l) (ap (λ x. map letter (fixed 16 x v) ++ drop at out) (sym e) ∙ ap (λ x. map letter (fixed 16 i v) ++ drop x out) (sym z) ∙ back)
+
+-- digits that are put at a place, as one equation on the whole output
+pub laid : (old new : List ℕ) (at n v r : ℕ) → Put old at (hexadecimals n v) new r → new ≡ take at old ++ (hexadecimals n v ++ drop (at + n) old)
+laid old new at n v r p =
+    let is : r ≡ at + n = omega (arith, p.at, length_hexadecimals n v) in
+    sym (take-append-drop r new)
+    ∙ ap (λ l. l ++ drop r new) p.done
+    ∙ ap (λ l. (take at old ++ hexadecimals n v) ++ l) (p.rest ∙ ap (λ x. drop x old) is)
+    ∙ append_assoc (take at old) (hexadecimals n v) (drop (at + n) old)

@@ -1,5 +1,5 @@
 // Items written: the canonical letters of a value, behind a blank.
-ghost use Rattle.std.specs.Prelude.{◌≡◌, ℕ, ◌+◌, ◌<◌, ◌≤◌, List, ◌∷◌, length};
+ghost use Rattle.std.specs.Prelude.{◌≡◌, ℕ, ◌+◌, ◌<◌, ◌≤◌, List, ◌∷◌, ◌++◌, length, take, drop};
 ghost use Rattle.telegram.specs.Value.{value_of};
 ghost use Rattle.spelling.specs.Write.{Put};
 ghost use Rattle.cola_a.specs.Canon.{letter, hex_digits, hexadecimals, letters, size};
@@ -63,6 +63,14 @@ pub fn put_digits(n: usize, value: u32, out: &mut [u8], at: usize) -> usize
         rest /= 16;
     }
     at + n
+}
+
+// Writes the n lowest digits of `value` from `at` on.
+pub fn write_digits(out: &mut [u8], at: usize, n: usize, value: u32)
+    requires { at + n ≤ length out.old }
+    ensures { out.new ≡ take at out.old ++ (hexadecimals n value ++ drop (at + n) out.old) }
+{
+    put_digits(n, value, out, at);
 }
 
 // Writes the letters of an item, and answers the place behind them.

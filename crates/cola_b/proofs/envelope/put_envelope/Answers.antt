@@ -13,6 +13,6 @@ returns c =
     let is : c.body_in-body.result.now ≡ body = c.body_in-body.ensures in
     let front : header ++ c.four_bytes-length.result ≡ header ++ fixed 256 4 (length body) = ap (λ l. header ++ l) (c.four_bytes-length.ensures ∙ ap (λ b. fixed 256 4 (length b)) is) in
     let behind : c.checksum-sum.result ∷ [] ≡ checksum body ∷ [] = ap (λ x. x ∷ []) (c.checksum-sum.ensures ∙ ap checksum is) in
-    enclosed_by wrap_binary old c.put_bytes.new.out c.put_bytes-2.new.out c.args.to c.put_bytes.result c.put_bytes-2.result c.requires.0 refl refl
+    enclosed_by wrap_binary old c.put_bytes.new.out c.put_bytes-2.new.out c.args.to c.put_bytes.result c.put_bytes-2.result c.requires.front refl refl
     (subst (λ w. Put old 0 w c.put_bytes.new.out c.put_bytes.result) front (put_put header _ c.put_bytes-at.ensures c.put_bytes.ensures))
     (subst (λ w. Put c.put_bytes.new.out c.args.to w c.put_bytes-2.new.out c.put_bytes-2.result) behind c.put_bytes-2.ensures)
