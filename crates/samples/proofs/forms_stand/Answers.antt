@@ -1,0 +1,12 @@
+use Rattle.std.proofs.Common.{refl}
+use Rattle.telegram.specs.Catalogue.{rows}
+use Rattle.spelling.specs.Walk.{walk}
+use Rattle.samples.specs.Forms.{FormsStand}
+use Rattle.samples.proofs.forms_stand.Goals as goal
+
+stand : FormsStand
+unfolding walk rows
+stand = ((refl, (refl, (refl, (refl, tt)))), (refl, (refl, (refl, (refl, (refl, (refl, (refl, (refl, (refl, (refl, (refl, (refl, (refl, (refl, (refl, (refl, (refl, (refl, (refl, (refl, (refl, (refl, (refl, (refl, tt)))))))))))))))))))))))), (refl, (refl, (refl, (refl, tt)))))
+
+pub returns : goal.returns
+returns c = record { count = refl; stand = stand }
