@@ -1,5 +1,5 @@
 -- What a sheet says of bytes. Assumes nothing.
-use Rattle.std.specs.Prelude.{ℕ, List, [], ◌∷◌, ◌++◌, codes, decimal}
+use Rattle.std.specs.Prelude.{ℕ, cond, List, [], ◌∷◌, ◌++◌, codes, decimal, ◌==◌, slice_index}
 use Rattle.telegram.specs.declared.kind.Kind.{Kind}
 use Rattle.telegram.specs.declared.kind.Kind.TheVariants.{Bool, Uint8, Uint16, Uint32, Int8, Int32}
 use Rattle.telegram.specs.declared.row.Row.{Row}
@@ -8,7 +8,8 @@ use Rattle.telegram.specs.Value.{Value, num, real, text}
 use Rattle.layout.specs.Source.{Seen}
 use Rattle.framing.specs.Read.{Outcome, accepted, refused}
 use Rattle.cola_a.specs.Canon.{letters}
-use Rattle.known.specs.Known.{told, reads_in}
+use Rattle.cola_a.specs.Read.{reads_text}
+use Rattle.cola_b.specs.Read.{reads_binary}
 
 -- the name of a kind of numbers
 abbrev pub kind_name : Kind → List ℕ
@@ -56,7 +57,7 @@ page (refused n p) = refusal n p
 
 -- bytes are read in binary if the second of them is 02, else as text
 abbrev pub outcome : List ℕ → Outcome
-outcome bs = reads_in (told bs) bs
+outcome bs = cond (slice_index bs 1 == 2) (reads_binary bs) (reads_text bs)
 
 abbrev pub sheet_of : List ℕ → List ℕ
 sheet_of bs = page (outcome bs)

@@ -40,8 +40,8 @@ fn are_full(parts: Parts<'_>) -> bool {
             comment: Some(comment),
             time: Some(time),
         } => position == POSITION
-            && name == b"Belt 7 north"
-            && comment == b"ok, 2 of 3"
+            && name == b"Belt 7 north".as_slice()
+            && comment == b"ok, 2 of 3".as_slice()
             && time == TIME,
         _ => false,
     }
