@@ -1,7 +1,6 @@
 #!/bin/sh
 # The viewer in C: proves and builds the static library, compiles the program and the calls over it, and compares what they say with what they should.
 cd "$(dirname "$0")/.." || exit 1
-kit=$(dirname "$(dirname "$(rt doc)")")
 work=$(mktemp -d) || exit 1
 trap 'rm -rf "$work"' EXIT
 failed=0
@@ -12,7 +11,7 @@ fail() {
 }
 
 compile() { # SOURCE PROGRAM
-    "${CC:-gcc}" -std=c11 -O2 -Wall -Wextra -Werror -Icrates/viewer/include "$1" target/staticlib/libviewer.a "$kit/lib/librattle_c.a" -o "$work/$2"
+    "${CC:-gcc}" -std=c11 -O2 -Wall -Wextra -Werror -Icrates/viewer/include "$1" crates/viewer/out/libviewer.a -o "$work/$2"
 }
 
 # What stands in $work/said and $work/erred is what printf makes of two texts.
@@ -57,7 +56,7 @@ misused() { # WORD..
     run 2 '' '' 'usage: viewer read A|B | viewer respell A|B A|B\n' "$@"
 }
 
-rt staticlib viewer >"$work/log" 2>&1 || { cat "$work/log"; echo 'viewer.sh: FAILED: the library is not built'; exit 1; }
+(cd crates/viewer && rt lib) >"$work/log" 2>&1 || { cat "$work/log"; echo 'viewer.sh: FAILED: the library is not built'; exit 1; }
 compile crates/viewer/c/viewer.c viewer && compile tests/calls.c calls || { echo 'viewer.sh: FAILED: the programs are not compiled'; exit 1; }
 
 head='\002\002\002\002\000\000\000'

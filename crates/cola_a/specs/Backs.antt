@@ -1,5 +1,5 @@
 -- What is written in text is found again. Assumes nothing.
-use Rattle.std.specs.Prelude.{◌≡◌, ℕ, zero, suc, ◌+◌, ◌-◌, ◌*◌, ◌/◌, ◌%◌, ◌^◌, ◌<◌, ◌≤◌, max, Bool, true, false, cond, List, [], ◌∷◌, ◌++◌, map, length, ◌==◌, nat_lt, refl}
+use Rattle.std.specs.Prelude.{◌≡◌, ℕ, ◌+◌, ◌*◌, ◌^◌, ◌<◌, ◌≤◌, max, false, cond, List, [], ◌∷◌, ◌++◌, map, length, ◌==◌, nat_lt, refl}
 use Rattle.std.proofs.Common.{sym, ap, subst, ◌∙◌, arith, add-zero, lt_of_lt_of_le}
 use Rattle.std.proofs.Math.Nat.{max-le, le-max_left, le-max_right, pow-le-pow_right}
 use Rattle.std.specs.Int.Digits.{number_from_digits, number_from_digits_after, AllBelowBase}
@@ -14,7 +14,7 @@ use Rattle.spelling.specs.Spell.{found, faulty}
 use Rattle.spelling.specs.Canon.{fixed, written, Back}
 use Rattle.spelling.proofs.Digitals.{number_fixed, length_fixed, under_fixed}
 use Rattle.spelling.proofs.Backs.{text_back}
-use Rattle.cola_a.specs.Digits.{digit, Run, ran, run}
+use Rattle.cola_a.specs.Digits.{digit, ran, run}
 use Rattle.cola_a.specs.Items.{hexadecimal, number_after, eight, real_after, bare, find_text}
 use Rattle.cola_a.specs.Canon.{letter, hex_digits, letters, canon_text}
 

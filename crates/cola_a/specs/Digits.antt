@@ -1,5 +1,5 @@
 -- Digits of a number, hexadecimal and decimal alike. Assumes nothing.
-use Rattle.std.specs.Prelude.{◌≡◌, ℕ, ◌+◌, ◌-◌, ◌*◌, ◌<◌, ◌≤◌, Bool, true, false, cond, ◌&&◌, List, [], ◌∷◌, length, drop, Some, None, Option, ◌==◌, ◌≢◌, nat_le, nat_lt}
+use Rattle.std.specs.Prelude.{◌≡◌, ℕ, ◌+◌, ◌-◌, ◌*◌, ◌<◌, ◌≤◌, false, cond, ◌&&◌, List, [], ◌∷◌, length, drop, Some, None, Option, ◌==◌, ◌≢◌, nat_le, nat_lt}
 use Rattle.cola_a.specs.declared.digits.Base.{Base}
 use Rattle.cola_a.specs.declared.digits.Base.TheVariants.{Ten, Sixteen}
 use Rattle.cola_a.specs.declared.digits.Glyph.{Glyph}

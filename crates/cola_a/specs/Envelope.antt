@@ -1,5 +1,5 @@
 -- The envelope of a text: 02, the body, 03. Assumes nothing.
-use Rattle.std.specs.Prelude.{◌≡◌, ℕ, ◌+◌, ◌-◌, Bool, cond, ◌||◌, List, [], ◌∷◌, length, Some, None, Option, ◌==◌, slice_index, slice_range}
+use Rattle.std.specs.Prelude.{ℕ, ◌+◌, ◌-◌, Bool, cond, ◌||◌, List, [], ◌∷◌, length, Some, None, Option, ◌==◌, slice_index, slice_range}
 use Rattle.spelling.specs.Spell.{Opened, holds, wrong, Opens}
 use Rattle.spelling.specs.Write.{Wrap}
 

@@ -13,7 +13,7 @@ use Rattle.telegram.specs.Value.{num, real}
 use Rattle.spelling.specs.Spell.{found, faulty, Sound, Adjoining}
 use Rattle.spelling.proofs.Fairs.{Exact, sound_by, adjoining_by, fair_cond, text_fair, blanked_fair}
 use Rattle.cola_a.specs.Digits.{Run, ran, broken, run}
-use Rattle.cola_a.specs.Items.{upward, downward, pattern, hexadecimal, decimal, number_after, eight, real_after, bare, find_text}
+use Rattle.cola_a.specs.Items.{upward, downward, pattern, hexadecimal, decimal, number_after, eight, bare, find_text}
 use Rattle.cola_a.specs.Bounds.{Kept, run_kept}
 
 limits : (k : Kind) → (upward k ≤ patterns k) × (0 < patterns k)

@@ -4,7 +4,7 @@ use Rattle.std.proofs.Common.{sym, ap, subst, ◌∙◌, arith, mul-le-mul_left,
 use Rattle.std.proofs.Math.Nat.{pow-succ', pow-le-pow_right}
 use Rattle.std.proofs.lemmas.Bool.{ne_eqb, eq-eqb, lt-ltb, and_from, cond-true, cond-false}
 use Rattle.std.proofs.lemmas.List.{at_drop_more, at_drop_all}
-use Rattle.cola_a.specs.Digits.{Run, ran, broken, run, digit}
+use Rattle.cola_a.specs.Digits.{ran, broken, run, digit}
 
 -- one digit more, of a base up to 16
 pub grown : (base n v d : ℕ) → base ≤ 16 → v < 16 ^ n → d < base → v * base + d < 16 ^ (n + 1)

@@ -1,8 +1,8 @@
 -- A byte that is changed alone is seen. Assumes nothing.
-use Rattle.std.proofs.Common.{◌≡◌, ℕ, suc, ◌<◌, Bool, true, false, cond, ◌||◌, eqb, ltb, List, [], ◌∷◌, length, get_or, set, sym, refl, ap, ◌∙◌, subst, arith, length-set, w8, Fits}
+use Rattle.std.proofs.Common.{◌≡◌, ℕ, suc, ◌<◌, Bool, true, false, cond, ◌||◌, eqb, ltb, List, [], ◌∷◌, length, get_or, set, refl, ap, ◌∙◌, arith, length-set, w8, Fits}
 use Rattle.std.specs.List.{AllByRecursion as All}
 use Rattle.spelling.specs.Spell.{Opened, holds, wrong}
-use Rattle.framing.specs.Read.{Reading, Outcome, accepted, refused, unwrapped, reads}
+use Rattle.framing.specs.Read.{Reading, accepted, refused, unwrapped}
 use Rattle.cola_b.specs.Items.{find_binary}
 use Rattle.cola_b.specs.Envelope.{open_binary}
 use Rattle.cola_b.specs.Read.{reads_binary, Guarded}

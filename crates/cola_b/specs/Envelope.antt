@@ -1,7 +1,7 @@
 -- The envelope in binary: a header, the body's length, the body, and its checksum. Assumes nothing.
-use Rattle.std.specs.Prelude.{ℕ, suc, ◌-◌, Bool, true, false, cond, List, [], ◌∷◌, ◌++◌, length, take, drop, ◌==◌, bit_xor, nat_lt, slice_index}
+use Rattle.std.specs.Prelude.{ℕ, suc, ◌-◌, cond, List, [], ◌∷◌, ◌++◌, length, take, drop, ◌==◌, bit_xor, nat_lt, slice_index}
 use Rattle.std.specs.Int.Digits.{number_from_digits}
-use Rattle.spelling.specs.Spell.{Opened, holds, wrong, Opens}
+use Rattle.spelling.specs.Spell.{holds, wrong, Opens}
 use Rattle.spelling.specs.Canon.{fixed}
 use Rattle.spelling.specs.Write.{Wrap}
 

@@ -1,5 +1,5 @@
 -- Items in binary: numbers stand highest byte first. Assumes nothing.
-use Rattle.std.specs.Prelude.{ℕ, Bool, true, false, cond, List, length, take, drop, Some, None, Option, nat_lt}
+use Rattle.std.specs.Prelude.{ℕ, true, false, cond, List, length, take, drop, Some, None, Option, nat_lt}
 use Rattle.std.specs.Int.Digits.{number_from_digits}
 use Rattle.telegram.specs.declared.kind.Kind.{Kind}
 use Rattle.telegram.specs.declared.item.Want.{Want}

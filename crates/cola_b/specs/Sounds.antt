@@ -1,5 +1,5 @@
 -- What is found is what was wanted, and a body lies within the input. Assumes nothing.
-use Rattle.std.specs.Prelude.{◌≡◌, ℕ, ◌-◌, ◌<◌, ◌≤◌, Bool, true, false, cond, List, [], ◌++◌, length, take, drop, ◌==◌, nat_lt, slice_index, refl}
+use Rattle.std.specs.Prelude.{◌≡◌, ℕ, ◌-◌, ◌<◌, Bool, true, false, List, [], ◌++◌, length, take, drop, ◌==◌, nat_lt, slice_index, refl}
 use Rattle.std.proofs.Common.{sym, ap, ◌∙◌, arith}
 use Rattle.std.specs.Int.Digits.{number_from_digits}
 use Rattle.std.proofs.lemmas.List.{length-drop, take-append-drop}
@@ -9,7 +9,7 @@ use Rattle.telegram.specs.declared.item.Want.TheVariants.{Number, Real, Text}
 use Rattle.telegram.specs.declared.refusal.Fault.TheVariants.{Cut, Misspelt}
 use Rattle.telegram.specs.Kind.{bytes, patterns}
 use Rattle.telegram.specs.Value.{Value, num, real, want, Good}
-use Rattle.spelling.specs.Spell.{Spelt, found, faulty, Sound, Adjoining, verbatim, holds, wrong, Lies, Inside}
+use Rattle.spelling.specs.Spell.{found, faulty, Sound, Adjoining, verbatim, holds, wrong, Lies, Inside}
 use Rattle.spelling.proofs.Fairs.{Exact, sound_by, adjoining_by, fair_cond, text_fair, blanked_fair}
 use Rattle.cola_b.specs.Items.{spelt_in, bare, find_binary}
 use Rattle.cola_b.specs.Envelope.{header, alike, stated, body, checksum, open_binary}

@@ -1,5 +1,5 @@
 -- A body behind its envelope: the head, and then the items. Assumes nothing.
-use Rattle.std.proofs.Common.{◌≡◌, ℕ, ◌+◌, ◌-◌, ◌<◌, ◌≤◌, Bool, true, false, cond, ◌&&◌, List, [], ◌∷◌, length, get_or, take, drop, is_some, Some, None, Ok, Err, Option, sym, refl, ap, ◌∙◌, subst, arith, Bor}
+use Rattle.std.proofs.Common.{◌≡◌, ℕ, ◌+◌, ◌-◌, ◌<◌, ◌≤◌, Bool, true, false, List, length, get_or, take, drop, is_some, Some, None, Ok, Option, sym, ap, ◌∙◌, subst, arith, Bor}
 use Rattle.std.proofs.lemmas.Bool.{ne_eqb, eq-eqb, cond-true, cond-false}
 use Rattle.std.proofs.lemmas.List.{take_all, length-drop, at_drop_more, at_drop_all}
 use Rattle.telegram.specs.declared.item.Want.{Want}
@@ -8,14 +8,13 @@ use Rattle.telegram.specs.declared.row.Row.{Row}
 use Rattle.layout.specs.declared.records.Parts.{Parts}
 use Rattle.telegram.specs.declared.refusal.Reason.TheVariants.{Unknown}
 use Rattle.layout.specs.declared.stage.Progress.{Progress}
-use Rattle.telegram.specs.Catalogue.{name}
 use Rattle.telegram.specs.Refusal.{reason_number}
-use Rattle.layout.specs.Layout.{Layout, layout, is_scan, wanted}
+use Rattle.layout.specs.Layout.{layout, is_scan, wanted}
 use Rattle.layout.specs.Follow.{todo}
 use Rattle.layout.specs.Passing.{Begins}
 use Rattle.layout.specs.Source.{values, Tells}
 use Rattle.spelling.specs.Spell.{Find}
-use Rattle.spelling.specs.Walk.{Walk, whole, halt, onward, left}
+use Rattle.spelling.specs.Walk.{halt, left}
 use Rattle.spelling.specs.Check.{Checks, starting}
 use Rattle.framing.specs.Read.{Outcome, accepted, refused, head, without_blank, is_none, after_head, judged, itemized, headed, Names, Holds}
 use Rattle.spelling.proofs.Walks.{begun}

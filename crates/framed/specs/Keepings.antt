@@ -1,23 +1,22 @@
 -- What reading keeps to. Assumes nothing.
-use Rattle.std.specs.Prelude.{◌≡◌, ℕ, zero, suc, ◌+◌, ◌-◌, ◌<◌, ◌≤◌, Bool, true, false, cond, ◌||◌, List, [], ◌∷◌, ◌++◌, map, length, take, drop, Some, None, Option, ◌==◌, nat_lt, refl}
-use Rattle.std.proofs.Common.{sym, ap, subst, ◌∙◌, append-nil, arith, take-add}
+use Rattle.std.specs.Prelude.{◌≡◌, ℕ, zero, suc, ◌+◌, ◌-◌, ◌≤◌, Bool, true, false, cond, ◌||◌, List, [], ◌∷◌, ◌++◌, map, length, take, drop, Some, None, Option, ◌==◌, nat_lt, refl}
+use Rattle.std.proofs.Common.{sym, ap, subst, ◌∙◌, arith, take-add}
 use Rattle.std.proofs.lemmas.Bool.{eqb-false, ltb-false, or_parts}
 use Rattle.std.proofs.lemmas.List.{length-take, length-drop, drop-drop}
 use Rattle.telegram.specs.declared.item.Want.{Want}
 use Rattle.telegram.specs.declared.refusal.Fault.{Fault}
 use Rattle.telegram.specs.declared.refusal.Fault.TheVariants.{Cut, Misspelt}
-use Rattle.telegram.specs.declared.refusal.Reason.TheVariants.{Limit, Rest}
 use Rattle.telegram.specs.declared.row.Row.{Row}
 use Rattle.telegram.specs.Value.{Value, number, want, Good}
 use Rattle.telegram.specs.Catalogue.{name}
-use Rattle.telegram.specs.Refusal.{reason_number, fault_number}
+use Rattle.telegram.specs.Refusal.{fault_number}
 use Rattle.layout.specs.Layout.{Layout, State, wanted, advance, weight, layout, limit}
-use Rattle.layout.specs.Source.{When, Fits, Within, Seen, values}
-use Rattle.layout.proofs.Times.{falls, heavy, light}
+use Rattle.layout.specs.Source.{When, Fits, Seen, values}
+use Rattle.layout.proofs.Times.{falls, light}
 use Rattle.spelling.specs.Spell.{Spelt, found, faulty, Find, Fair, Sound, Opened, holds, wrong, Opens, Inside, Lies}
-use Rattle.spelling.specs.Walk.{Ending, whole, halt, Walk, stop, more, closed, seen, walk}
-use Rattle.framing.specs.Read.{Reading, Outcome, accepted, refused, head, after_head, without_blank, judged, itemized, headed, unwrapped, reads, telegram, cut, spans, joined, Keeps}
-use Rattle.spelling.proofs.Walks.{turn_end, turn_fault, turn_unfit, turn_more, closed_items}
+use Rattle.spelling.specs.Walk.{Ending, whole, halt, Walk, stop, closed, walk}
+use Rattle.framing.specs.Read.{refused, head, after_head, without_blank, judged, headed, unwrapped, reads, cut, joined, Keeps}
+use Rattle.spelling.proofs.Walks.{turn_end, turn_fault, turn_unfit, turn_more}
 
 -- the items that were passed fit the layout, and follow one another up to the end; a fault has one of the numbers 5 to 8
 abbrev pub Chain : ℕ → ℕ → List Seen → Type 0

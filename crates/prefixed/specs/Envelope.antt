@@ -1,5 +1,5 @@
 -- The envelope: the body's length in two bytes, the highest first, and the body. Assumes nothing.
-use Rattle.std.specs.Prelude.{ℕ, ◌-◌, cond, List, [], length, take, ◌==◌, nat_lt}
+use Rattle.std.specs.Prelude.{◌-◌, cond, [], length, take, ◌==◌, nat_lt}
 use Rattle.std.specs.Int.Digits.{number_from_digits}
 use Rattle.spelling.specs.Spell.{holds, wrong, Opens}
 use Rattle.spelling.specs.Canon.{fixed}

@@ -1,5 +1,5 @@
 -- Sample telegrams, and what they come to. Assumes nothing.
-use Rattle.std.specs.Prelude.{◌≡◌, ℕ, true, false, List, [], ◌∷◌, ◌++◌, codes}
+use Rattle.std.specs.Prelude.{◌≡◌, ℕ, false, List, [], ◌∷◌, ◌++◌, codes}
 use Rattle.std.specs.List.{AllByRecursion as All}
 use Rattle.telegram.specs.declared.kind.Kind.TheVariants.{Bool as Truth, Uint8, Uint16, Uint32, Int8, Int32}
 use Rattle.telegram.specs.declared.item.Want.{Want}

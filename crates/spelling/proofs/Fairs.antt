@@ -1,11 +1,11 @@
 -- What is found is what was wanted, and a text stands right before what follows it. Assumes nothing.
-use Rattle.std.proofs.Common.{◌≡◌, ℕ, ◌<◌, ◌≤◌, Bool, true, false, cond, eqb, ltb, List, [], ◌∷◌, length, take, drop, sym, refl, ap, ◌∙◌, subst, arith}
+use Rattle.std.proofs.Common.{◌≡◌, ℕ, ◌≤◌, Bool, true, false, cond, eqb, ltb, List, [], ◌∷◌, length, take, drop, sym, refl, ap, arith}
 use Rattle.std.proofs.lemmas.Bool.{ltb-false}
 use Rattle.std.proofs.lemmas.List.{length-take, length-drop, take-append-drop}
 use Rattle.telegram.specs.declared.item.Want.{Want}
 use Rattle.telegram.specs.declared.item.Want.TheVariants.{Text}
 use Rattle.telegram.specs.declared.refusal.Fault.TheVariants.{Cut, Misspelt}
-use Rattle.telegram.specs.Value.{Value, text, printable, want, Good}
+use Rattle.telegram.specs.Value.{text, printable, want, Good}
 use Rattle.spelling.specs.Spell.{Spelt, found, faulty, Find, Fair, Sound, Adjoins, Adjoining, Follows, text_of, barred, blanked}
 
 -- both that what is found is what was wanted and that a text stands right before what follows it

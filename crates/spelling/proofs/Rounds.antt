@@ -1,13 +1,13 @@
 -- What is written is read, in every spelling. Assumes nothing.
-use Rattle.std.proofs.Common.{◌≡◌, ℕ, zero, suc, ◌+◌, ◌≤◌, Bool, true, false, List, [], ◌∷◌, ◌++◌, map, length, drop, Some, None, Option, sym, refl, ap, ◌∙◌, subst, arith}
+use Rattle.std.proofs.Common.{◌≡◌, ℕ, zero, suc, ◌+◌, ◌≤◌, Bool, true, false, List, [], ◌∷◌, ◌++◌, length, Some, None, Option, refl, ap, ◌∙◌, arith}
 use Rattle.std.proofs.lemmas.List.{drop_at}
 use Rattle.telegram.specs.Value.{Value, number, want}
 use Rattle.layout.specs.Layout.{Layout, State, layout, limit, advance, weight}
-use Rattle.layout.specs.Source.{When, Fits, Seen}
+use Rattle.layout.specs.Source.{When, Fits}
 use Rattle.layout.proofs.Times.{falls, heavy}
 use Rattle.spelling.specs.Spell.{Find}
 use Rattle.spelling.specs.Canon.{Canon, written, Back}
-use Rattle.spelling.specs.Walk.{Walk, whole, more, seen, walk}
+use Rattle.spelling.specs.Walk.{whole, more, seen, walk}
 use Rattle.spelling.specs.Round.{spans_of, Round}
 use Rattle.spelling.proofs.Walks.{turn_end, turn_more}
 

@@ -1,13 +1,11 @@
 -- The turns of a check: what was passed, and what is still to come. Assumes nothing.
-use Rattle.std.proofs.Common.{◌≡◌, ℕ, ◌+◌, ◌<◌, ◌≤◌, true, List, [], length, Some, None, Ok, sym, refl, ap, ◌∙◌, subst}
+use Rattle.std.proofs.Common.{◌≡◌, ℕ, ◌+◌, ◌<◌, ◌≤◌, true, List, [], length, None, Ok, sym, refl, ap, ◌∙◌, subst}
 use Rattle.std.proofs.lemmas.Bool.{lt-ltb, le-ltb}
-use Rattle.telegram.specs.declared.item.Want.{Want}
 use Rattle.layout.specs.declared.cursor.Cursor.{Cursor}
 use Rattle.telegram.specs.declared.row.Row.{Row}
 use Rattle.layout.specs.declared.records.Parts.{Parts}
 use Rattle.telegram.specs.declared.refusal.Reason.TheVariants.{Rest}
 use Rattle.layout.specs.declared.stage.Progress.{Progress}
-use Rattle.telegram.specs.Value.{value_of}
 use Rattle.telegram.specs.Refusal.{reason_number}
 use Rattle.layout.specs.Layout.{layout, is_scan, wanted, weight}
 use Rattle.layout.specs.Follow.{todo, stands}
@@ -16,7 +14,7 @@ use Rattle.layout.specs.Source.{values, Tells}
 use Rattle.layout.proofs.Times.{falls}
 use Rattle.layout.proofs.Tellings.{Tale, tale_none, turn, told, kept_scan}
 use Rattle.spelling.specs.Spell.{Find}
-use Rattle.spelling.specs.Walk.{Walk, whole, halt, stop, onward}
+use Rattle.spelling.specs.Walk.{halt, stop, onward}
 use Rattle.spelling.specs.Check.{Passed, Walks, Checks, over, starting}
 use Rattle.spelling.proofs.Walks.{on_end, begun, closed_over, closed_items}
 

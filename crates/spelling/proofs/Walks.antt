@@ -10,13 +10,12 @@ use Rattle.layout.specs.declared.stage.Progress.{Progress}
 use Rattle.layout.specs.declared.cursor.Cursor.{Cursor}
 use Rattle.telegram.specs.Value.{Value, num, real, text, want, Good, number}
 use Rattle.telegram.specs.Refusal.{reason_number, fault_number}
-use Rattle.layout.specs.Layout.{Layout, State, state, layout, limit, is_scan, wanted, advance, weight}
+use Rattle.layout.specs.Layout.{Layout, State, layout, wanted, advance, weight}
 use Rattle.layout.specs.Follow.{todo, stands, Fitting}
 use Rattle.layout.specs.Passing.{Begins}
-use Rattle.layout.specs.Source.{Seen, values}
 use Rattle.layout.proofs.Times.{falls, light, heavy}
 use Rattle.spelling.specs.Spell.{Spelt, found, faulty, Find, Fair}
-use Rattle.spelling.specs.Walk.{seen, Ending, halt, whole, Walk, stop, more, closed, walk, onward}
+use Rattle.spelling.specs.Walk.{seen, halt, whole, Walk, stop, more, closed, walk, onward}
 use Rattle.spelling.specs.Check.{starting, over}
 
 module _ (find : Find) (n : ℕ) (first : Bool) (l : Layout) (r : ℕ) (bs : List ℕ) where

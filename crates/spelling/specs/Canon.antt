@@ -1,5 +1,5 @@
 -- The one spelling of an item that is written. Assumes nothing.
-use Rattle.std.specs.Prelude.{◌≡◌, ℕ, zero, suc, ◌/◌, ◌%◌, Bool, true, false, List, [], ◌∷◌, ◌++◌}
+use Rattle.std.specs.Prelude.{◌≡◌, ℕ, zero, suc, ◌/◌, ◌%◌, Bool, false, List, [], ◌∷◌, ◌++◌}
 use Rattle.telegram.specs.Value.{Value, Good, want}
 use Rattle.spelling.specs.Spell.{found, Find}
 

@@ -1,5 +1,5 @@
 -- How an envelope is opened and an item found: the words, and what every spelling keeps to. Assumes nothing.
-use Rattle.std.specs.Prelude.{◌≡◌, ℕ, ◌+◌, ◌≤◌, Bool, true, false, cond, List, [], ◌∷◌, ◌++◌, length, take, drop, Ok, Err, Result, ◌==◌, nat_lt}
+use Rattle.std.specs.Prelude.{◌≡◌, ℕ, ◌≤◌, Bool, cond, List, [], ◌∷◌, ◌++◌, length, take, drop, Ok, Err, Result, ◌==◌, nat_lt}
 use Rattle.telegram.specs.declared.item.Want.{Want}
 use Rattle.telegram.specs.declared.item.Item.{Item}
 use Rattle.telegram.specs.declared.refusal.Fault.{Fault}

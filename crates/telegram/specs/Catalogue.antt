@@ -1,5 +1,5 @@
 -- The catalogue. Assumes nothing.
-use Rattle.std.specs.Prelude.{ℕ, Bool, true, false, cond, ◌&&◌, List, [], ◌∷◌, Some, None, codes, Option}
+use Rattle.std.specs.Prelude.{ℕ, Bool, cond, ◌&&◌, List, [], ◌∷◌, Some, None, codes, Option}
 use Rattle.std.specs.Str.{bytes_eq}
 use Rattle.telegram.specs.declared.row.Row.{Row}
 use Rattle.telegram.specs.declared.row.Row.TheVariants.{SsnScanData, SraScanData, SrnScanData, SenScanData, SeaScanData, SmnRun, SanRun, SmnSetAccessMode, SanSetAccessMode, SmnStoreAll, SanStoreAll, SmnResetOutputs, SanResetOutputs, SrnDeviceState, SraDeviceState, SrnSensorState, SraSensorState, SrnDeviceIdent, SraDeviceIdent, SwnParticle, SwaParticle, SwnMeanFilter, SwaMeanFilter, SwnOneOfN, SwaOneOfN, SwnGate, SwaGate}

@@ -1,5 +1,5 @@
 -- Values, and what a layout asks for. Assumes nothing.
-use Rattle.std.specs.Prelude.{◌≡◌, ℕ, ◌<◌, Bool, true, false, ◌&&◌, List, [], ◌∷◌, length, nat_le}
+use Rattle.std.specs.Prelude.{◌≡◌, ℕ, ◌<◌, Bool, true, ◌&&◌, List, [], ◌∷◌, length, nat_le}
 use Rattle.telegram.specs.declared.kind.Kind.{Kind}
 use Rattle.telegram.specs.declared.item.Want.{Want}
 use Rattle.telegram.specs.declared.item.Want.TheVariants.{Number as a_number, Real as a_real, Text as a_text}

@@ -1,5 +1,5 @@
 -- The optional parts one behind the other. Assumes nothing.
-use Rattle.std.proofs.Common.{◌≡◌, ℕ, ◌+◌, Bool, false, List, [], ◌∷◌, ◌++◌, length, Some, None, Option, sym, refl, ap, ◌∙◌, arith, length-append, Bor}
+use Rattle.std.proofs.Common.{◌≡◌, ℕ, ◌+◌, Bool, false, List, [], ◌∷◌, ◌++◌, length, Some, None, Option, ap, ◌∙◌, arith, length-append, Bor}
 use Rattle.layout.specs.declared.records.Position.{Position}
 use Rattle.layout.specs.declared.records.Time.{Time}
 use Rattle.layout.specs.declared.records.Parts.{Parts}

@@ -1,14 +1,13 @@
 -- A telegram's body from its head, its first items and its optional parts. Assumes nothing.
-use Rattle.std.proofs.Common.{◌≡◌, ℕ, ◌+◌, ◌-◌, ◌<◌, ◌≤◌, Bool, true, false, eqb, List, [], ◌∷◌, ◌++◌, length, take, Some, None, Option, sym, refl, ap, ◌∙◌, subst, append_assoc, arith, length-append, Bor}
+use Rattle.std.proofs.Common.{◌≡◌, ℕ, ◌+◌, ◌-◌, ◌≤◌, Bool, true, false, eqb, List, [], ◌∷◌, ◌++◌, length, take, Some, None, Option, sym, ap, ◌∙◌, subst, append_assoc, arith, length-append, Bor}
 use Rattle.std.specs.List.{AllByRecursion as All}
 use Rattle.std.proofs.lemmas.List.{take_at}
 use Rattle.telegram.specs.declared.row.Row.{Row}
 use Rattle.telegram.specs.Catalogue.{command, name}
 use Rattle.telegram.specs.Value.{Value, number, Good}
-use Rattle.layout.specs.declared.records.Position.{Position}
 use Rattle.layout.specs.declared.records.Parts.{Parts}
 use Rattle.layout.specs.Layout.{Layout, State, advance, layout, limit, is_scan}
-use Rattle.layout.specs.Passing.{no_parts, position_items, label_items, time_items, parts_items}
+use Rattle.layout.specs.Passing.{position_items, label_items, parts_items}
 use Rattle.layout.specs.Source.{Telegram, When, Fits, Within, EndsIn, Tells, Told}
 use Rattle.spelling.specs.Canon.{Canon, written}
 use Rattle.spelling.specs.Write.{Wrap, Snug, body_of, spelled}

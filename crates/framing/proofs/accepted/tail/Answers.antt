@@ -1,4 +1,4 @@
-use Rattle.std.proofs.Common.{length, drop, sym, arith}
+use Rattle.std.proofs.Common.{drop, sym, arith}
 use Rattle.std.proofs.lemmas.List.{take_all, drop_all, length-drop}
 use Rattle.framing.proofs.accepted.tail.Goals as goal
 

@@ -1,7 +1,7 @@
-use Rattle.std.proofs.Common.{◌≡◌, ℕ, ◌+◌, ◌-◌, ◌<◌, ◌≤◌, Bool, true, false, List, length, take, drop, sym, refl, ap, ◌∙◌, arith}
+use Rattle.std.proofs.Common.{◌≡◌, ℕ, ◌+◌, ◌-◌, ◌≤◌, true, false, List, length, take, drop, sym, ap, ◌∙◌, arith}
 use Rattle.std.proofs.lemmas.List.{length-drop, drop-drop}
 use Rattle.std.proofs.lemmas.Bool.{lt-ltb, le-ltb, cond-true, cond-false}
-use Rattle.telegram.specs.declared.refusal.Fault.TheVariants.{Cut, Misspelt}
+use Rattle.telegram.specs.declared.refusal.Fault.TheVariants.{Misspelt}
 use Rattle.telegram.specs.Value.{printable, text}
 use Rattle.spelling.specs.Spell.{found, faulty, text_of}
 use Rattle.spelling.proofs.text.text_at.Goals as goal

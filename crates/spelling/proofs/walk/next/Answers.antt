@@ -1,4 +1,4 @@
-use Rattle.std.proofs.Common.{◌≡◌, sym, refl, ap, ◌∙◌, subst}
+use Rattle.std.proofs.Common.{sym, ap, ◌∙◌, subst}
 use Rattle.layout.specs.Source.{Pulled}
 use Rattle.spelling.specs.Walk.{left}
 use Rattle.spelling.proofs.Walks.{on_end, on_fault, on_unfit, on_more, alike, closed_items}

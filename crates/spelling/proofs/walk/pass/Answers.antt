@@ -1,4 +1,4 @@
-use Rattle.std.proofs.Common.{◌≡◌, drop, sym, refl, ap, ◌∙◌, subst}
+use Rattle.std.proofs.Common.{drop, sym, ap, ◌∙◌, subst}
 use Rattle.telegram.specs.Value.{value_of}
 use Rattle.layout.specs.Layout.{wanted, advance}
 use Rattle.layout.specs.Follow.{todo}

@@ -1,4 +1,3 @@
-use Rattle.std.proofs.Common.{◌≡◌, sym, refl, ap, ◌∙◌, subst}
 use Rattle.std.proofs.lemmas.Result.{err_from_is_err_and}
 use Rattle.spelling.proofs.Turns.{passing_none, passing_more, passing_fault, passing_walks, passed_less}
 use Rattle.spelling.proofs.walk.walk.Goals as goal

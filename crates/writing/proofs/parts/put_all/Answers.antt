@@ -1,4 +1,4 @@
-use Rattle.std.proofs.Common.{◌+◌, map, length, drop, arith}
+use Rattle.std.proofs.Common.{◌+◌, map, drop, arith}
 use Rattle.telegram.specs.declared.item.Item.TheVariants.{Number}
 use Rattle.telegram.specs.declared.kind.Kind.TheVariants.{Bool}
 use Rattle.telegram.specs.Value.{value_of}

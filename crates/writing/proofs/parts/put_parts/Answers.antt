@@ -1,4 +1,4 @@
-use Rattle.std.proofs.Common.{◌≡◌, sym, subst, arith}
+use Rattle.std.proofs.Common.{sym, subst, arith}
 use Rattle.spelling.specs.Write.{Put}
 use Rattle.spelling.proofs.Puts.{put_put}
 use Rattle.writing.proofs.Fives.{five, five_long}

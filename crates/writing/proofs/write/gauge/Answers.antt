@@ -1,4 +1,4 @@
-use Rattle.std.proofs.Common.{◌≡◌, ◌+◌, length, refl, ap, ◌∙◌, arith}
+use Rattle.std.proofs.Common.{◌+◌, refl, ap, ◌∙◌, arith}
 use Rattle.telegram.specs.Value.{value_of}
 use Rattle.layout.specs.Source.{values}
 use Rattle.writing.proofs.Gauges.{gauge_none, gauge_few, gauge_long, gauge_more, gauge_all}

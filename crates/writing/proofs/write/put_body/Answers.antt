@@ -1,11 +1,11 @@
-use Rattle.std.proofs.Common.{◌≡◌, ℕ, ◌-◌, true, eqb, ◌∷◌, ◌++◌, length, take, sym, refl, ap, ◌∙◌, subst, arith}
+use Rattle.std.proofs.Common.{◌≡◌, ℕ, ◌-◌, true, ◌∷◌, ◌++◌, length, sym, ap, ◌∙◌, subst, arith}
 use Rattle.std.proofs.lemmas.List.{take_all}
 use Rattle.telegram.specs.Catalogue.{command, name}
 use Rattle.layout.specs.Layout.{layout}
 use Rattle.layout.specs.Passing.{parts_items}
 use Rattle.layout.specs.Source.{Telegram}
 use Rattle.spelling.specs.Canon.{written}
-use Rattle.spelling.specs.Write.{Put, body_of}
+use Rattle.spelling.specs.Write.{Put}
 use Rattle.spelling.proofs.Puts.{put_put}
 use Rattle.writing.proofs.Wholes.{headed, body_joined, body_long, split, split_long, split_few, scan_ends}
 use Rattle.writing.proofs.write.put_body.Goals as goal

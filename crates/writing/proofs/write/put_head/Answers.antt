@@ -1,4 +1,4 @@
-use Rattle.std.proofs.Common.{◌≡◌, ℕ, List, [], ◌∷◌, ◌++◌, subst}
+use Rattle.std.proofs.Common.{[], ◌∷◌, subst}
 use Rattle.telegram.specs.Catalogue.{command, name}
 use Rattle.spelling.specs.Write.{Put}
 use Rattle.spelling.proofs.Puts.{put_put}

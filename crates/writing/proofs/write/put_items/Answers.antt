@@ -1,4 +1,4 @@
-use Rattle.std.proofs.Common.{◌≡◌, ◌-◌, length, take, ap, ◌∙◌, arith}
+use Rattle.std.proofs.Common.{ap, arith}
 use Rattle.telegram.specs.Value.{value_of}
 use Rattle.layout.specs.Source.{values}
 use Rattle.writing.proofs.Fillings.{filling_long, filling_more, filling_all, take_one, take_none}

@@ -1,9 +1,9 @@
-use Rattle.std.proofs.Common.{◌≡◌, ℕ, List, ◌++◌, length, drop, sym, refl, ap, ◌∙◌, subst, arith, length-append}
+use Rattle.std.proofs.Common.{◌∙◌, subst, arith}
 use Rattle.layout.specs.Source.{Telegram}
-use Rattle.spelling.specs.Write.{Put, body_of, spelled}
+use Rattle.spelling.specs.Write.{Put, body_of}
 use Rattle.spelling.proofs.Puts.{put_enclosed}
-use Rattle.spelling.proofs.Reaches.{items_few, items_short, short}
-use Rattle.writing.proofs.Wholes.{whole_long, spelled_long, told_labelled}
+use Rattle.spelling.proofs.Reaches.{short}
+use Rattle.writing.proofs.Wholes.{spelled_long, told_labelled}
 use Rattle.writing.proofs.write.put_whole.Goals as goal
 
 pub put_body-end-requires : goal.put_body-end-requires

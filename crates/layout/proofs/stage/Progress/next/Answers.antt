@@ -1,4 +1,4 @@
-use Rattle.std.proofs.Common.{◌≡◌, Some, sym, refl, ap, ◌∙◌, subst}
+use Rattle.std.proofs.Common.{sym, refl, ap, ◌∙◌, subst}
 use Rattle.layout.specs.declared.stage.Stage.TheVariants.{Optional}
 use Rattle.layout.specs.Layout.{advance}
 use Rattle.layout.specs.Follow.{todo}
