@@ -2,7 +2,7 @@
 use Rattle.std.specs.Prelude.{◌≡◌, ℕ, ◌+◌, ◌-◌, ◌*◌, ◌<◌, ◌≤◌, max, Bool, true, false, List, [], ◌∷◌, ◌++◌, length, Some, None, Option, nat_le, slice_index, refl}
 use Rattle.std.proofs.Common.{ap, ◌∙◌, arith, length-append}
 use Rattle.std.proofs.Math.Nat.{max-le}
-use Rattle.std.specs.List.{AllByRecursion as All}
+use Rattle.std.specs.List.{AllByRecursion}
 use Rattle.std.proofs.ByRecursion.{All-append, All-map, All-weaker}
 use Rattle.std.proofs.lemmas.Bool.{ne_eqb, eq-eqb, leb-true, or_from, and_parts, cond-true, cond-false}
 use Rattle.std.proofs.lemmas.List.{take_at, get_or_at}
@@ -41,9 +41,9 @@ text_snug = record { little = omega arith; front_long = λ b. refl; behind_long 
 -- No byte of a body is a mark: none is less than a blank.
 
 abbrev Clear : List ℕ → Type 0
-Clear bs = All (λ c. 32 ≤ c) bs
+Clear bs = AllByRecursion (λ c. 32 ≤ c) bs
 
-darker : (cs : List ℕ) → All (λ c. 32 < c) cs → Clear cs
+darker : (cs : List ℕ) → AllByRecursion (λ c. 32 < c) cs → Clear cs
 darker cs h = All-weaker (λ c. 32 < c) (λ c. 32 ≤ c) (λ c l. omega arith) cs h
 
 clear_digits : (n v : ℕ) → Clear (hexadecimals n v)

@@ -3,7 +3,7 @@ use Rattle.std.proofs.Common.{◌≡◌, ℕ, zero, suc, ◌+◌, ◌-◌, ◌*�
 use lib.Bits.{bit_xor, xor_self, xor_assoc, xor_comm, xor_zero_l}
 use lib.Seq.{take-set-lt}
 use Rattle.std.specs.Int.Digits.{number_from_digits_after, AllBelowBase}
-use Rattle.std.specs.List.{AllByRecursion as All}
+use Rattle.std.specs.List.{AllByRecursion}
 use Rattle.std.proofs.ByRecursion.{All-take, All-drop, All-set}
 use Rattle.std.proofs.lemmas.List.{length-set, length-take, length-drop, get_or-set_same, get_or-set_other, get_or-take, get_or-drop, take-set-le, drop-set-add}
 use Rattle.std.proofs.lemmas.Bool.{cases_lt, ltb-false, eqb-true, cond_both}
@@ -75,7 +75,7 @@ module _ (bs : List ℕ) (i v : ℕ) (l : i < length bs) (old : Whole bs) (new :
   in_header : i < 4 → v ≡ get_or bs i 0
   in_header h = sym here ∙ sym (common header (set bs i v) i (omega (arith, new.begun))) ∙ common header bs i (omega (arith, old.begun))
 
-  in_length : All (λ b. b < 256) bs → v < 256 → 4 ≤ i → i < 8 → v ≡ get_or bs i 0
+  in_length : AllByRecursion (λ b. b < 256) bs → v < 256 → 4 ≤ i → i < 8 → v ≡ get_or bs i 0
   in_length u small h k =
       let part : List ℕ → List ℕ = λ xs. take 4 (drop 4 xs) in
       let long : (xs : List ℕ) → length (part xs) ≡ min 4 (length xs - 4) = λ xs. length-take 4 (drop 4 xs) ∙ ap (min 4) (length-drop 4 xs) in
@@ -108,7 +108,7 @@ module _ (bs : List ℕ) (i v : ℕ) (l : i < length bs) (old : Whole bs) (new :
       let kept : body (set bs i v) ≡ body bs = body_set (omega (arith, old.enough)) ∙ take-set-le (length bs - 9) (drop 8 bs) (i - 8) v (omega arith) in
       sym here ∙ ap (λ k. get_or (set bs i v) k 0) e ∙ sym last ∙ ap checksum kept ∙ old.sum ∙ ap (λ k. get_or bs k 0) (sym e)
 
-  unchanged : All (λ b. b < 256) bs → v < 256 → v ≡ get_or bs i 0
+  unchanged : AllByRecursion (λ b. b < 256) bs → v < 256 → v ≡ get_or bs i 0
   unchanged u small =
       ⊎_elim in_header (λ four. ⊎_elim (in_length u small four) (λ eight. ⊎_elim (in_body eight) in_checksum (cases_lt i (length bs - 1))) (cases_lt i 8)) (cases_lt i 4)
 
@@ -118,6 +118,6 @@ refused bs (wrong n p) e no_body = (n, (p, e))
 
 -- an input that holds a body, with any one of its bytes changed to another, has a wrong envelope
 pub changed :
-    (bs : List ℕ) (i v from to : ℕ) → All (λ b. b < 256) bs → i < length bs → v < 256 → (v ≡ get_or bs i 0 → ⊥) → open_binary bs ≡ holds from to
+    (bs : List ℕ) (i v from to : ℕ) → AllByRecursion (λ b. b < 256) bs → i < length bs → v < 256 → (v ≡ get_or bs i 0 → ⊥) → open_binary bs ≡ holds from to
     → (n : ℕ) × ((p : ℕ) × (open_binary (set bs i v) ≡ wrong n p))
 changed bs i v from to u l small ne e = refused (set bs i v) (open_binary (set bs i v)) refl (λ new. ne (unchanged bs i v l (subst (Judged bs) e (judged bs)) new u small))

@@ -1,6 +1,6 @@
 -- A byte that is changed alone is seen. Assumes nothing.
 use Rattle.std.proofs.Common.{◌≡◌, ℕ, suc, ◌<◌, Bool, true, false, cond, ◌||◌, eqb, ltb, List, [], ◌∷◌, length, get_or, set, refl, ap, ◌∙◌, arith, length-set, w8, Fits}
-use Rattle.std.specs.List.{AllByRecursion as All}
+use Rattle.std.specs.List.{AllByRecursion}
 use Rattle.spelling.specs.Spell.{Opened, holds, wrong}
 use Rattle.framing.specs.Read.{Reading, accepted, refused, unwrapped}
 use Rattle.cola_b.specs.Items.{find_binary}
@@ -26,13 +26,13 @@ opened bs g e =
     ] in
     go (sized bs) refl e
 
-pub guarded : (bs : List ℕ) → All (λ b. b < 256) bs → Guarded bs
+pub guarded : (bs : List ℕ) → AllByRecursion (λ b. b < 256) bs → Guarded bs
 guarded bs small g i v e lt vl ne =
     let o = opened bs g e in
     let w = changed bs i v o.1.0 o.1.1.0 small lt vl ne o.1.1.1 in
     let size : sized (set bs i v) ≡ false = ap (λ n. eqb n 0 || ltb 65536 n) (length-set bs i v) ∙ o.0 in
     (w.0, (w.1.0, ap (λ x. cond x (refused 1 0) (unwrapped find_binary true (set bs i v) (open_binary (set bs i v)))) size ∙ ap (unwrapped find_binary true (set bs i v)) w.1.1))
 
-pub octets : (bs : List ℕ) → ((i : ℕ) → Fits w8 (get_or bs i 0)) → All (λ b. b < 256) bs
+pub octets : (bs : List ℕ) → ((i : ℕ) → Fits w8 (get_or bs i 0)) → AllByRecursion (λ b. b < 256) bs
 octets [] h = tt
 octets (b ∷ bs) h = (omega (arith, h 0), octets bs (λ i. h (suc i)))

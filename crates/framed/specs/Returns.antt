@@ -1,7 +1,7 @@
 -- What is written is read, in every framing. Assumes nothing.
 use Rattle.std.specs.Prelude.{◌≡◌, ℕ, ◌+◌, ◌-◌, ◌<◌, ◌≤◌, Bool, true, false, cond, ◌&&◌, List, [], ◌∷◌, ◌++◌, length, take, drop, Some, slice_index, refl}
 use Rattle.std.proofs.Common.{sym, ap, subst, ◌∙◌, arith, length-append}
-use Rattle.std.specs.List.{AllByRecursion as All}
+use Rattle.std.specs.List.{AllByRecursion}
 use Rattle.std.proofs.lemmas.Bool.{ne_eqb, eq-eqb, le-ltb, or_from, and_right, cond-true, cond-false}
 use Rattle.std.proofs.lemmas.List.{append_assoc, take_at, drop_at, drop-drop, get_or_at}
 use Rattle.telegram.specs.Catalogue.{command, name, listed}
@@ -23,7 +23,7 @@ abbrev Ends : List ℕ → Type 0
 Ends [] = Unit {0}
 Ends (b ∷ bs) = b ≡ 32
 
-word_back : (n rest : List ℕ) → All (λ c. 32 < c) n → Ends rest → word (n ++ rest) ≡ n
+word_back : (n rest : List ℕ) → AllByRecursion (λ c. 32 < c) n → Ends rest → word (n ++ rest) ≡ n
 word_back [] [] h e = refl
 word_back [] (b ∷ bs) h e = cond-true _ _ _ (eq-eqb b 32 e)
 word_back (c ∷ n) rest h e = cond-false _ _ _ (ne_eqb c 32 (λ p. omega (arith, h.0))) ∙ ap (λ l. c ∷ l) (word_back n rest h.1 e)

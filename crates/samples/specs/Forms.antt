@@ -1,6 +1,6 @@
 -- The canonical spellings of the sample telegrams and of some more, and what respelling makes of them. Assumes nothing.
 use Rattle.std.specs.Prelude.{◌≡◌, ℕ, List, [], ◌∷◌, ◌++◌, replicate, Some, None, codes, Option}
-use Rattle.std.specs.List.{AllByRecursion as All}
+use Rattle.std.specs.List.{AllByRecursion}
 use Rattle.telegram.specs.declared.kind.Kind.TheVariants.{Uint16, Uint32, Int8}
 use Rattle.telegram.specs.declared.row.Row.TheVariants.{SmnSetAccessMode, SwaParticle, SraDeviceIdent}
 use Rattle.telegram.specs.Value.{num, text as words}
@@ -151,4 +151,4 @@ respellings =
 
 -- what writing makes of the samples and of those beyond their list
 abbrev pub FormsStand : Type 0
-FormsStand = All ComesTo further × All FormedSo formings × All RespeltSo respellings
+FormsStand = AllByRecursion ComesTo further × AllByRecursion FormedSo formings × AllByRecursion RespeltSo respellings

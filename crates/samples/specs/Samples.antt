@@ -1,6 +1,6 @@
 -- Sample telegrams, and what they come to. Assumes nothing.
 use Rattle.std.specs.Prelude.{◌≡◌, ℕ, false, List, [], ◌∷◌, ◌++◌, codes}
-use Rattle.std.specs.List.{AllByRecursion as All}
+use Rattle.std.specs.List.{AllByRecursion}
 use Rattle.telegram.specs.declared.kind.Kind.TheVariants.{Bool as Truth, Uint8, Uint16, Uint32, Int8, Int32}
 use Rattle.telegram.specs.declared.item.Want.{Want}
 use Rattle.telegram.specs.declared.item.Want.TheVariants.{Number, Real}
@@ -141,4 +141,4 @@ spellings =
 
 -- what the samples come to
 abbrev pub SamplesStand : Type 0
-SamplesStand = All ComesTo samples × All SpeltSo spellings
+SamplesStand = AllByRecursion ComesTo samples × AllByRecursion SpeltSo spellings

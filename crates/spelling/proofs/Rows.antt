@@ -1,6 +1,6 @@
 -- What every row of the catalogue keeps to. Assumes nothing.
 use Rattle.std.proofs.Common.{◌≡◌, ℕ, ◌<◌, ◌≤◌, Bool, true, ◌&&◌, eqb, ltb, leb, List, [], ◌∷◌, length, Some, refl}
-use Rattle.std.specs.List.{AllByRecursion as All}
+use Rattle.std.specs.List.{AllByRecursion}
 use Rattle.std.proofs.lemmas.Bool.{eqb-true, leb-true, ltb-true, and_parts}
 use Rattle.telegram.specs.declared.row.Row.{Row}
 use Rattle.telegram.specs.declared.row.Row.TheVariants.{SsnScanData, SraScanData, SrnScanData, SenScanData, SeaScanData, SmnRun, SanRun, SmnSetAccessMode, SanSetAccessMode, SmnStoreAll, SanStoreAll, SmnResetOutputs, SanResetOutputs, SrnDeviceState, SraDeviceState, SrnSensorState, SraSensorState, SrnDeviceIdent, SraDeviceIdent, SwnParticle, SwaParticle, SwnMeanFilter, SwaMeanFilter, SwnOneOfN, SwaOneOfN, SwnGate, SwaGate}
@@ -11,7 +11,7 @@ abbrev dark : List ℕ → Bool
 dark [] = true
 dark (c ∷ cs) = ltb 32 c && dark cs
 
-all_dark : (cs : List ℕ) → dark cs ≡ true → All (λ c. 32 < c) cs
+all_dark : (cs : List ℕ) → dark cs ≡ true → AllByRecursion (λ c. 32 < c) cs
 all_dark [] h = tt
 all_dark (c ∷ cs) h = let p = and_parts (ltb 32 c) (dark cs) h in (ltb-true 32 c p.0, all_dark cs p.1)
 
@@ -63,10 +63,10 @@ module _ (r : Row) where
   pub name_long : length (name r) ≤ 13
   name_long = leb-true _ 13 brief.0
 
-  pub command_dark : All (λ c. 32 < c) (command r)
+  pub command_dark : AllByRecursion (λ c. 32 < c) (command r)
   command_dark = all_dark (command r) both.0
 
-  pub name_dark : All (λ c. 32 < c) (name r)
+  pub name_dark : AllByRecursion (λ c. 32 < c) (name r)
   name_dark = all_dark (name r) both.1
 
 -- a row is found under its type and name

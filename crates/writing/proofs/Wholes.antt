@@ -1,6 +1,6 @@
 -- A telegram's body from its head, its first items and its optional parts. Assumes nothing.
 use Rattle.std.proofs.Common.{◌≡◌, ℕ, ◌+◌, ◌-◌, ◌≤◌, Bool, true, false, eqb, List, [], ◌∷◌, ◌++◌, length, take, Some, None, Option, sym, ap, ◌∙◌, subst, append_assoc, arith, length-append, Bor}
-use Rattle.std.specs.List.{AllByRecursion as All}
+use Rattle.std.specs.List.{AllByRecursion}
 use Rattle.std.proofs.lemmas.List.{take_at}
 use Rattle.telegram.specs.declared.row.Row.{Row}
 use Rattle.telegram.specs.Catalogue.{command, name}
@@ -39,28 +39,28 @@ split_few l vs p e = omega (arith, ap length e.all, length-append e.lead (parts_
 
 -- Every item of a telegram is good; so are the lengths of its texts.
 
-fits_good : (l : Layout) (r : ℕ) (vs : List Value) → Fits l r vs → All Good vs
+fits_good : (l : Layout) (r : ℕ) (vs : List Value) → Fits l r vs → AllByRecursion Good vs
 fits_good l r [] h = tt
 fits_good l r (v ∷ vs) h =
-    let go : (o : Option State) → When o (λ s. Fits s.todo s.room vs) → All Good vs = λ o. elim o as (λ o. When o (λ s. Fits s.todo s.room vs) → All Good vs) [ None ↦ λ b. absurd b | Some s ↦ λ b. fits_good s.todo s.room vs b ] in
+    let go : (o : Option State) → When o (λ s. Fits s.todo s.room vs) → AllByRecursion Good vs = λ o. elim o as (λ o. When o (λ s. Fits s.todo s.room vs) → AllByRecursion Good vs) [ None ↦ λ b. absurd b | Some s ↦ λ b. fits_good s.todo s.room vs b ] in
     (h.1, go (advance l r (number v)) h.2)
 
-all_right : (xs ys : List Value) → All Good (xs ++ ys) → All Good ys
+all_right : (xs ys : List Value) → AllByRecursion Good (xs ++ ys) → AllByRecursion Good ys
 all_right [] ys h = h
 all_right (x ∷ xs) ys h = all_right xs ys h.1
 
-label_sized : (o : Option (Bor (List ℕ))) (ws : List Value) → All Good (label_items o ++ ws) → Sized o
+label_sized : (o : Option (Bor (List ℕ))) (ws : List Value) → AllByRecursion Good (label_items o ++ ws) → Sized o
 label_sized None ws h = tt
 label_sized (Some s) ws h = h.1.0
 
-parts_labelled : (p : Parts) → All Good (parts_items p) → Labelled p
+parts_labelled : (p : Parts) → AllByRecursion Good (parts_items p) → Labelled p
 parts_labelled p h =
     let a = all_right (position_items p.position) _ h in
     let b = all_right (label_items p.name) _ a in
     (label_sized p.name _ a, label_sized p.comment _ b)
 
-tells_labelled : (b : Bool) (l : Layout) (vs : List Value) (p : Parts) → All Good vs → Tells b l vs p → Labelled p
-tells_labelled true l vs p h e = parts_labelled p (all_right e.lead (parts_items p) (subst (All Good) e.all h))
+tells_labelled : (b : Bool) (l : Layout) (vs : List Value) (p : Parts) → AllByRecursion Good vs → Tells b l vs p → Labelled p
+tells_labelled true l vs p h e = parts_labelled p (all_right e.lead (parts_items p) (subst (AllByRecursion Good) e.all h))
 tells_labelled false l vs p h e = subst Labelled (sym e) (tt, tt)
 
 pub told_labelled : (t : Telegram) (p : Parts) → Within t → Told t p → Labelled p
