@@ -1,12 +1,12 @@
 // Respells one telegram, which it reads from standard input, into the framing that its argument names.
 #![tactic(auto)]
 
-use anyhow::anyhow;
 use framed::read::LONGEST;
 use framing::respell::respell;
 use known::{Known, lettered, told};
 use std::env::FillError;
 use std::io::{Read, Write};
+use std::process::ExitCode;
 use std::rt::Env;
 use telegram::refusal::Refusal;
 
@@ -45,18 +45,18 @@ fn run(rt: &HostRuntime, to: &Known) -> anyhow::Result<Result<(), Refusal>> {
     }
 }
 
-fn main(rt: HostRuntime) -> anyhow::Result<()> {
+fn main(rt: HostRuntime) -> anyhow::Result<ExitCode> {
     let Some(to) = target(&rt) else {
         eprintln!(rt; "{USAGE}")?;
-        return Err(anyhow!("usage"));
+        return Ok(ExitCode::FAILURE);
     };
     match run(&rt, &to)? {
-        Ok(()) => Ok(()),
+        Ok(()) => Ok(ExitCode::SUCCESS),
         Err(refusal) => {
             let number = refusal.reason.number();
             let place = refusal.place;
             eprintln!(rt; "refused {number} {place}")?;
-            Err(anyhow!("refused"))
+            Ok(ExitCode::FAILURE)
         }
     }
 }

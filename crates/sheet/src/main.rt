@@ -1,11 +1,11 @@
 // Prints the sheet of one telegram, which it reads from standard input.
 #![tactic(auto)]
 
-use anyhow::anyhow;
 use framed::read::LONGEST;
 use page::sheet::sheet;
 use std::env::FillError;
 use std::io::{Read, Write};
+use std::process::ExitCode;
 use std::rt::Env;
 
 fn has_arguments(rt: &impl Env) -> bool {
@@ -22,10 +22,11 @@ fn run(rt: &HostRuntime) -> anyhow::Result<()> {
     Ok(())
 }
 
-fn main(rt: HostRuntime) -> anyhow::Result<()> {
+fn main(rt: HostRuntime) -> anyhow::Result<ExitCode> {
     if has_arguments(&rt) {
         eprintln!(rt; "usage: sheet < TELEGRAM")?;
-        return Err(anyhow!("arguments"));
+        return Ok(ExitCode::FAILURE);
     }
-    run(&rt)
+    run(&rt)?;
+    Ok(ExitCode::SUCCESS)
 }

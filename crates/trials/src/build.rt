@@ -72,6 +72,14 @@ pub fn in_binary(heap: Global, pieces: &[&[u8]]) -> Result<Vec<u8>, AllocError> 
     Ok(bytes)
 }
 
+pub fn enveloped(heap: Global, binary: bool, pieces: &[&[u8]]) -> Result<Vec<u8>, AllocError> {
+    if binary {
+        in_binary(heap, pieces)
+    } else {
+        in_text(heap, pieces)
+    }
+}
+
 // A body behind its length in two bytes.
 pub fn behind_length(heap: Global, body: &[u8]) -> Result<Vec<u8>, AllocError> {
     let length = body.len();
