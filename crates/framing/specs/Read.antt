@@ -140,5 +140,5 @@ Reads left bs o (Err e) = o ≡ refusal_of e
 
 -- what accepting answers: the framing, and what reading in it answers
 abbrev pub Accepts : {A F : Type 0} → (A → F) → (A → Head) → (F → List ℕ → Cursor → List Seen) → (F → List ℕ → Outcome) → F → List ℕ → Result A Refusal → Type 0
-Accepts framing-of head_of left reads f bs (Ok a) = (framing-of a ≡ f) × Reads (left f) bs (reads f bs) (Ok (head_of a))
-Accepts framing-of head_of left reads f bs (Err e) = Reads (left f) bs (reads f bs) (Err e)
+Accepts framing_of head_of left reads f bs (Ok a) = (framing_of a ≡ f) × Reads (left f) bs (reads f bs) (Ok (head_of a))
+Accepts framing_of head_of left reads f bs (Err e) = Reads (left f) bs (reads f bs) (Err e)

@@ -72,6 +72,7 @@ pub fn in_binary(heap: Global, pieces: &[&[u8]]) -> Result<Vec<u8>, AllocError> 
     Ok(bytes)
 }
 
+// Pieces in an envelope of either framing.
 pub fn enveloped(heap: Global, binary: bool, pieces: &[&[u8]]) -> Result<Vec<u8>, AllocError> {
     if binary {
         in_binary(heap, pieces)
