@@ -66,6 +66,7 @@ pub fn put_digits(n: usize, value: u32, out: &mut [u8], at: usize) -> usize
 }
 
 // Writes the n lowest digits of `value` from `at` on.
+#[tactic(auto, using(crate::specs::Writes::laid))]
 pub fn write_digits(out: &mut [u8], at: usize, n: usize, value: u32)
     requires { at + n ≤ length out.old }
     ensures { out.new ≡ take at out.old ++ (hexadecimals n value ++ drop (at + n) out.old) }
