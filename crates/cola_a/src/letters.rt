@@ -11,7 +11,7 @@ ghost use Rattle.cola_a.specs.Wraps.{text_slim, text_parted, text_snug, text_reo
 use crate::canon::{item_size, put_item};
 use crate::envelope::{open_text, put_envelope};
 use crate::items::item_at;
-use spelling::terms::{Extent, Spelling};
+use spelling::terms::{Extent, FullSpelling, Spelling};
 use telegram::item::{Item, Want};
 use telegram::refusal::{Fault, Refusal};
 
@@ -28,23 +28,11 @@ impl Spelling for Letters {
 
     ghost canon = { canon_text };
 
-    ghost wrap = { wrap_text };
-
     ghost inside = { text_inside };
 
     ghost sound = { text_sound };
 
-    ghost adjoining = { text_adjoining };
-
     ghost back = { text_written };
-
-    ghost slim = { text_slim };
-
-    ghost parted = { text_parted };
-
-    ghost snug = { text_snug };
-
-    ghost reopens = { text_reopens };
 
     fn open(bytes: &[u8]) -> Result<Extent, Refusal> {
         open_text(bytes)
@@ -62,6 +50,20 @@ impl Spelling for Letters {
     ) -> Result<(Item<'b>, usize), Fault> {
         item_at(want, text, at)
     }
+}
+
+impl FullSpelling for Letters {
+    ghost wrap = { wrap_text };
+
+    ghost adjoining = { text_adjoining };
+
+    ghost slim = { text_slim };
+
+    ghost parted = { text_parted };
+
+    ghost snug = { text_snug };
+
+    ghost reopens = { text_reopens };
 
     fn size(_first: bool, item: Item<'_>) -> usize {
         item_size(item)

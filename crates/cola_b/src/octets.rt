@@ -9,7 +9,7 @@ ghost use Rattle.cola_b.specs.Wraps.{binary_slim, binary_parted, binary_snug, bi
 
 use crate::envelope::{FRONT, put_envelope};
 use crate::items::{blanked_at, item_at, item_size, put_bare, put_blanked};
-use spelling::terms::{Extent, Spelling};
+use spelling::terms::{Extent, FullSpelling, Spelling};
 use telegram::item::{Item, Want};
 use telegram::refusal::{Fault, Refusal};
 
@@ -25,23 +25,11 @@ impl Spelling for Octets {
 
     ghost canon = { canon_binary };
 
-    ghost wrap = { wrap_binary };
-
     ghost inside = { binary_inside };
 
     ghost sound = { binary_sound };
 
-    ghost adjoining = { binary_adjoining };
-
     ghost back = { binary_written };
-
-    ghost slim = { binary_slim };
-
-    ghost parted = { binary_parted };
-
-    ghost snug = { binary_snug };
-
-    ghost reopens = { binary_reopens };
 
     fn open(bytes: &[u8]) -> Result<Extent, Refusal> {
         crate::envelope::open(bytes)
@@ -63,6 +51,20 @@ impl Spelling for Octets {
             item_at(want, text, at)
         }
     }
+}
+
+impl FullSpelling for Octets {
+    ghost wrap = { wrap_binary };
+
+    ghost adjoining = { binary_adjoining };
+
+    ghost slim = { binary_slim };
+
+    ghost parted = { binary_parted };
+
+    ghost snug = { binary_snug };
+
+    ghost reopens = { binary_reopens };
 
     fn size(first: bool, item: Item<'_>) -> usize {
         item_size(first, item)

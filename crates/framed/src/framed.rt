@@ -8,12 +8,12 @@ ghost use Rattle.framed.specs.Returns.{returns_in};
 ghost use Rattle.framed.specs.Texts.{left_verbatim};
 
 use crate::read::read;
-use framing::framing::{Framing, Meaning};
+use framing::framing::{Framing, FullFraming, Meaning};
 use framing::head::Head;
 use layout::cursor::Cursor;
 use layout::records::Parts;
 use layout::source::Source;
-use spelling::terms::Spelling;
+use spelling::terms::{FullSpelling, Spelling};
 use spelling::walk::next;
 use telegram::item::{Item, Placed};
 use telegram::refusal::Refusal;
@@ -35,18 +35,10 @@ impl<S: Spelling> Meaning for Framed<S> {
     ghost reads = { λ _. reads_in S.Spelling.opens S.Spelling.spare S.Spelling.finds };
 
     ghost left = { λ _. left_in S.Spelling.finds };
-
-    ghost spells = { λ _. spelled S.Spelling.canon S.Spelling.wrap };
 }
 
 impl<S: Spelling> Framing for Framed<S> {
     ghost keeps = { λ f bs. keeps_in S.Spelling.opens S.Spelling.spare S.Spelling.finds S.Spelling.inside S.Spelling.sound bs };
-
-    ghost back = { λ f t h.
-        returns_in S.Spelling.opens S.Spelling.spare S.Spelling.finds S.Spelling.canon S.Spelling.wrap
-        S.Spelling.back S.Spelling.slim S.Spelling.parted S.Spelling.snug S.Spelling.reopens t h };
-
-    ghost verbatim = { λ f bs at. left_verbatim S.Spelling.finds S.Spelling.adjoining bs at };
 
     fn read<'b>(&self, bytes: &'b [u8]) -> Result<Head<'b>, Refusal> {
         read::<S>(bytes)
@@ -55,6 +47,16 @@ impl<S: Spelling> Framing for Framed<S> {
     fn pull<'b>(&self, text: &'b [u8], at: Cursor) -> Option<(Placed<Item<'b>>, Cursor)> {
         next::<S>(text, at)
     }
+}
+
+impl<S: FullSpelling> FullFraming for Framed<S> {
+    ghost spells = { λ _. spelled S.Spelling.canon S.FullSpelling.wrap };
+
+    ghost back = { λ f t h.
+        returns_in S.Spelling.opens S.Spelling.spare S.Spelling.finds S.Spelling.canon S.FullSpelling.wrap
+        S.Spelling.back S.FullSpelling.slim S.FullSpelling.parted S.FullSpelling.snug S.FullSpelling.reopens t h };
+
+    ghost verbatim = { λ f bs at. left_verbatim S.Spelling.finds S.FullSpelling.adjoining bs at };
 
     fn length<T: Source>(&self, telegram: &T) -> usize {
         writing::write::length::<S, T>(telegram)

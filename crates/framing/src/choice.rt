@@ -1,7 +1,7 @@
 // A choice of two framings, which is a framing.
 ghost use Rattle.framing.specs.declared.choice.Choice.TheVariants.{First, Second};
 
-use crate::framing::{Framing, Meaning};
+use crate::framing::{Framing, FullFraming, Meaning};
 use crate::head::Head;
 use layout::cursor::Cursor;
 use layout::records::Parts;
@@ -19,24 +19,12 @@ impl<F: Framing, G: Framing> Meaning for Choice<F, G> {
     ghost reads = { λ c. elim c [ First f ↦ F.Meaning.reads f | Second g ↦ G.Meaning.reads g ] };
 
     ghost left = { λ c. elim c [ First f ↦ F.Meaning.left f | Second g ↦ G.Meaning.left g ] };
-
-    ghost spells = { λ c. elim c [ First f ↦ F.Meaning.spells f | Second g ↦ G.Meaning.spells g ] };
 }
 
 impl<F: Framing, G: Framing> Framing for Choice<F, G> {
     ghost keeps = { elim [
       | First f ↦ λ bs. F.Framing.keeps f bs
       | Second h ↦ λ bs. G.Framing.keeps h bs
-    ] };
-
-    ghost back = { elim [
-      | First f ↦ λ t w. F.Framing.back f t w
-      | Second h ↦ λ t w. G.Framing.back h t w
-    ] };
-
-    ghost verbatim = { elim [
-      | First f ↦ λ bs at. F.Framing.verbatim f bs at
-      | Second h ↦ λ bs at. G.Framing.verbatim h bs at
     ] };
 
     fn read<'b>(&self, bytes: &'b [u8]) -> Result<Head<'b>, Refusal> {
@@ -52,6 +40,20 @@ impl<F: Framing, G: Framing> Framing for Choice<F, G> {
             Choice::Second(framing) => framing.pull(text, at),
         }
     }
+}
+
+impl<F: FullFraming, G: FullFraming> FullFraming for Choice<F, G> {
+    ghost spells = { λ c. elim c [ First f ↦ F.FullFraming.spells f | Second g ↦ G.FullFraming.spells g ] };
+
+    ghost back = { elim [
+      | First f ↦ λ t w. F.FullFraming.back f t w
+      | Second h ↦ λ t w. G.FullFraming.back h t w
+    ] };
+
+    ghost verbatim = { elim [
+      | First f ↦ λ bs at. F.FullFraming.verbatim f bs at
+      | Second h ↦ λ bs at. G.FullFraming.verbatim h bs at
+    ] };
 
     fn length<T: Source>(&self, telegram: &T) -> usize {
         match self {

@@ -19,9 +19,6 @@ pub trait Meaning {
 
     // The items from a cursor on, in an input up to its body's end.
     ghost left: { Self → List ℕ → At → List Seen };
-
-    // The one spelling of a telegram that is written.
-    ghost spells: { Self → Telegram → List ℕ };
 }
 
 pub trait Framing: Meaning {
@@ -31,10 +28,19 @@ pub trait Framing: Meaning {
     fn pull<'b>(&self, text: &'b [u8], at: Cursor) -> Option<(Placed<Item<'b>>, Cursor)>
         ensures { Pulled (Self.Meaning.left self.now text.now) at result };
 
+    // What is accepted is within the catalogue and the limits, and its spans join in order to the body; a refusal is one of 1 to 8.
+    ghost keeps: { (f : Self) (bs : List ℕ) → Keeps bs (Self.Meaning.reads f bs) };
+}
+
+// A framing in which telegrams are also written.
+pub trait FullFraming: Framing {
+    // The one spelling of a telegram that is written.
+    ghost spells: { Self → Telegram → List ℕ };
+
     // How long the canonical spelling of a telegram is.
     fn length<T: Source>(&self, telegram: &T) -> usize
         requires { Within (T.Source.telegram telegram.now) }
-        ensures { result ≡ length (Self.Meaning.spells self.now (T.Source.telegram telegram.now)) };
+        ensures { result ≡ length (spells self.now (T.Source.telegram telegram.now)) };
 
     // Writes the canonical spelling of a telegram, whose optional parts are given as records.
     fn write<T: Source>(
@@ -45,15 +51,10 @@ pub trait Framing: Meaning {
     ) -> Result<usize, Refusal>
         requires within { Within (T.Source.telegram telegram.now) }
         requires told { Told (T.Source.telegram telegram.now) parts }
-        ensures { Wrote (Self.Meaning.spells self.now (T.Source.telegram telegram.now)) out.old out.new result };
-
-    // What every framing shows.
-
-    // What is accepted is within the catalogue and the limits, and its spans join in order to the body; a refusal is one of 1 to 8.
-    ghost keeps: { (f : Self) (bs : List ℕ) → Keeps bs (Self.Meaning.reads f bs) };
+        ensures { Wrote (spells self.now (T.Source.telegram telegram.now)) out.old out.new result };
 
     // The canonical spelling of every telegram within the catalogue and the limits is accepted, and means that telegram.
-    ghost back: { (f : Self) (t : Telegram) → Within t → Means t (Self.Meaning.reads f (Self.Meaning.spells f t)) };
+    ghost back: { (f : Self) (t : Telegram) → Within t → Means t (Self.Meaning.reads f (spells f t)) };
 
     // The texts among the items stand in the input as they are.
     ghost verbatim: { (f : Self) (bs : List ℕ) (at : At) → Verbatim bs (Self.Meaning.left f bs at) };

@@ -3,18 +3,18 @@ ghost use Rattle.std.specs.Prelude.{◌≡◌};
 ghost use Rattle.framing.specs.Respell.{answer_of, respelt, OneSpelling};
 
 use crate::accepted::accept;
-use crate::framing::Framing;
+use crate::framing::{Framing, FullFraming};
 use telegram::refusal::Refusal;
 
 // Answers the length of what was written at the output's start. After a refusal the output is as it was.
-pub fn respell<F: Framing, G: Framing>(
+pub fn respell<F: Framing, G: FullFraming>(
     from: &F,
     to: &G,
     bytes: &[u8],
     out: &mut [u8],
 ) -> Result<usize, Refusal>
-    ensures answer { record { answer = answer_of result; output = out.new } ≡ respelt (F.Meaning.reads from.now bytes.now) (G.Meaning.spells to.now) out.old }
-    ensures unique { OneSpelling (G.Meaning.reads to.now) (G.Meaning.spells to.now) }
+    ensures answer { record { answer = answer_of result; output = out.new } ≡ respelt (F.Meaning.reads from.now bytes.now) (G.FullFraming.spells to.now) out.old }
+    ensures unique { OneSpelling (G.Meaning.reads to.now) (G.FullFraming.spells to.now) }
 {
     match accept(from, bytes) {
         Ok(telegram) => to.write(&telegram, telegram.parts(), out),

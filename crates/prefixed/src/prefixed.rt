@@ -11,7 +11,7 @@ ghost use Rattle.cola_b.specs.Wraps.{binary_slim, binary_parted};
 use crate::envelope::{FRONT, open, put_length};
 use cola_b::octets::Octets;
 use framed::framed::Framed;
-use spelling::terms::{Extent, Spelling};
+use spelling::terms::{Extent, FullSpelling, Spelling};
 use telegram::item::{Item, Want};
 use telegram::refusal::{Fault, Refusal};
 
@@ -27,23 +27,11 @@ impl Spelling for Prefixed {
 
     ghost canon = { canon_binary };
 
-    ghost wrap = { wrap_prefixed };
-
     ghost inside = { prefixed_inside };
 
     ghost sound = { binary_sound };
 
-    ghost adjoining = { binary_adjoining };
-
     ghost back = { binary_written };
-
-    ghost slim = { binary_slim };
-
-    ghost parted = { binary_parted };
-
-    ghost snug = { prefixed_snug };
-
-    ghost reopens = { prefixed_reopens };
 
     fn open(bytes: &[u8]) -> Result<Extent, Refusal> {
         open(bytes)
@@ -61,6 +49,20 @@ impl Spelling for Prefixed {
     ) -> Result<(Item<'b>, usize), Fault> {
         Octets::find(first, want, text, at)
     }
+}
+
+impl FullSpelling for Prefixed {
+    ghost wrap = { wrap_prefixed };
+
+    ghost adjoining = { binary_adjoining };
+
+    ghost slim = { binary_slim };
+
+    ghost parted = { binary_parted };
+
+    ghost snug = { prefixed_snug };
+
+    ghost reopens = { prefixed_reopens };
 
     fn size(first: bool, item: Item<'_>) -> usize {
         Octets::size(first, item)

@@ -28,9 +28,6 @@ pub trait Spelling {
     // How an item is written.
     ghost canon: { Canon };
 
-    // What is put around a body.
-    ghost wrap: { Wrap };
-
     fn open(bytes: &[u8]) -> Result<Extent, Refusal>
         ensures { Opening (opens bytes.now) result };
 
@@ -47,15 +44,27 @@ pub trait Spelling {
         requires { at ≤ length text.now }
         ensures { Finds text.now (finds first want (drop at text.now)) result };
 
+    ghost inside: { Inside opens };
+
+    ghost sound: { Sound finds };
+
+    ghost back: { Back finds canon };
+}
+
+// A spelling in which telegrams are also written.
+pub trait FullSpelling: Spelling {
+    // What is put around a body.
+    ghost wrap: { Wrap };
+
     // How many bytes an item is written in, its blank included.
     fn size(first: bool, item: Item<'_>) -> usize
-        requires { length (canon first (value_of item)) ≤ 65536 }
-        ensures { result ≡ length (canon first (value_of item.entry)) };
+        requires { length (Self.Spelling.canon first (value_of item)) ≤ 65536 }
+        ensures { result ≡ length (Self.Spelling.canon first (value_of item.entry)) };
 
     // Writes an item at a place, and answers the place behind it.
     fn put(first: bool, item: Item<'_>, out: &mut [u8], at: usize) -> usize
-        requires { at + length (canon first (value_of item)) ≤ length out.old }
-        ensures { Put out.old at (canon first (value_of item.entry)) out.new result };
+        requires { at + length (Self.Spelling.canon first (value_of item)) ≤ length out.old }
+        ensures { Put out.old at (Self.Spelling.canon first (value_of item.entry)) out.new result };
 
     // How many bytes stand before a body, and how many behind it.
     fn margins() -> (usize, usize)
@@ -69,19 +78,13 @@ pub trait Spelling {
         requires short { to ≤ 65536 }
         ensures { out.new ≡ enclosed wrap out.old to };
 
-    ghost inside: { Inside opens };
+    ghost adjoining: { Adjoining Self.Spelling.finds };
 
-    ghost sound: { Sound finds };
+    ghost slim: { Slim Self.Spelling.canon };
 
-    ghost adjoining: { Adjoining finds };
-
-    ghost back: { Back finds canon };
-
-    ghost slim: { Slim canon };
-
-    ghost parted: { Parted canon };
+    ghost parted: { Parted Self.Spelling.canon };
 
     ghost snug: { Snug wrap };
 
-    ghost reopens: { Reopens opens canon wrap };
+    ghost reopens: { Reopens Self.Spelling.opens Self.Spelling.canon wrap };
 }

@@ -3,7 +3,7 @@ use crate::build::*;
 use cola_a::read::COLA_A;
 use cola_b::read::COLA_B;
 use framing::accepted::accept;
-use framing::framing::Framing;
+use framing::framing::FullFraming;
 use std::test::Fail;
 use views::find::channel;
 
@@ -53,7 +53,13 @@ const TOLD: [Told; 3] = [
 ];
 
 // Whether a channel of some bytes tells what it is to tell, its content standing at a place.
-fn tells<F: Framing>(framing: &F, bytes: &[u8], number: usize, told: Told, place: usize) -> bool {
+fn tells<F: FullFraming>(
+    framing: &F,
+    bytes: &[u8],
+    number: usize,
+    told: Told,
+    place: usize,
+) -> bool {
     let Ok(telegram) = accept(framing, bytes) else {
         return false;
     };
@@ -107,7 +113,7 @@ fn channels_of_both(rt: HostRuntime) -> Result<(), Fail> {
 }
 
 // Whether bytes are accepted and have no channel with a number.
-fn lacks<F: Framing>(framing: &F, bytes: &[u8], number: usize) -> bool {
+fn lacks<F: FullFraming>(framing: &F, bytes: &[u8], number: usize) -> bool {
     match accept(framing, bytes) {
         Ok(telegram) => channel(&telegram, number).is_none(),
         Err(_) => false,

@@ -2,7 +2,7 @@
 use crate::build::*;
 use cola_a::read::COLA_A;
 use cola_b::read::COLA_B;
-use framing::framing::Framing;
+use framing::framing::{Framing, FullFraming};
 use framing::respell::respell;
 use prefixed::prefixed::PREFIXED;
 use std::alloc::{AllocError, Global};
@@ -18,7 +18,12 @@ fn output(heap: Global, begin: &[u8], room: usize) -> Result<Vec<u8>, AllocError
 }
 
 // 0 and a length; or the number of a refusal and its place.
-fn answer<F: Framing, G: Framing>(from: &F, to: &G, bytes: &[u8], out: &mut [u8]) -> (u8, usize) {
+fn answer<F: Framing, G: FullFraming>(
+    from: &F,
+    to: &G,
+    bytes: &[u8],
+    out: &mut [u8],
+) -> (u8, usize) {
     match respell(from, to, bytes, out) {
         Ok(length) => (0, length),
         Err(refusal) => (refusal.reason.number(), refusal.place),
@@ -26,7 +31,7 @@ fn answer<F: Framing, G: Framing>(from: &F, to: &G, bytes: &[u8], out: &mut [u8]
 }
 
 // Whether respelling into an output of so many bytes answers so, and leaves these bytes and behind them what stood there.
-fn leaves<F: Framing, G: Framing>(
+fn leaves<F: Framing, G: FullFraming>(
     heap: Global,
     from: &F,
     to: &G,
@@ -41,7 +46,7 @@ fn leaves<F: Framing, G: Framing>(
 }
 
 // Whether bytes become others: in an output of exactly their length, in one that is longer by three, and not in one that is shorter by one.
-pub fn becomes<F: Framing, G: Framing>(
+pub fn becomes<F: Framing, G: FullFraming>(
     heap: Global,
     from: &F,
     to: &G,
@@ -58,7 +63,7 @@ pub fn becomes<F: Framing, G: Framing>(
 }
 
 // Whether an input that a text stands for becomes another.
-pub fn turns<F: Framing, G: Framing>(
+pub fn turns<F: Framing, G: FullFraming>(
     heap: Global,
     from: &F,
     to: &G,
@@ -76,7 +81,7 @@ pub fn turns<F: Framing, G: Framing>(
 }
 
 // Whether an input is refused by the number and at the place that stand behind it, and leaves an output as it was, however short it is.
-fn is_refused<F: Framing, G: Framing>(
+fn is_refused<F: Framing, G: FullFraming>(
     heap: Global,
     from: &F,
     to: &G,
@@ -94,7 +99,7 @@ fn is_refused<F: Framing, G: Framing>(
 }
 
 // Whether the input of each line is refused so.
-pub fn are_refused<F: Framing, G: Framing>(
+pub fn are_refused<F: Framing, G: FullFraming>(
     heap: Global,
     from: &F,
     to: &G,

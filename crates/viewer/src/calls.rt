@@ -6,7 +6,7 @@ ghost use Rattle.viewer.specs.Answer.{says_unknown, is_unknown, read_answer, tol
 
 use crate::answer::Answer;
 use framing::accepted::accept;
-use framing::framing::{Framing, Meaning};
+use framing::framing::{Framing, FullFraming, Meaning};
 use framing::respell::respell;
 use known::numbered;
 use layout::source::Source;
@@ -40,8 +40,8 @@ fn read_in<F: Framing>(framing: &F, bytes: &[u8]) -> Answer
 }
 
 // Respells bytes from one framing into another, and answers how many bytes are written.
-fn respell_in<F: Framing, G: Framing>(from: &F, to: &G, bytes: &[u8], out: &mut [u8]) -> Answer
-    ensures answer { record { answer = result; output = out.new } ≡ told (respelt (F.Meaning.reads from.now bytes.now) (G.Meaning.spells to.now) out.old) }
+fn respell_in<F: Framing, G: FullFraming>(from: &F, to: &G, bytes: &[u8], out: &mut [u8]) -> Answer
+    ensures answer { record { answer = result; output = out.new } ≡ told (respelt (F.Meaning.reads from.now bytes.now) (G.FullFraming.spells to.now) out.old) }
     ensures other { says_unknown result.number ≡ false }
 {
     match respell(from, to, bytes, out) {

@@ -7,7 +7,7 @@ ghost use Rattle.spelling.specs.Write.{Put};
 ghost use Rattle.writing.specs.Parts.{Sized, Labelled};
 
 use layout::records::{Parts, Position, Time};
-use spelling::terms::Spelling;
+use spelling::terms::{FullSpelling, Spelling};
 use telegram::item::Item;
 use telegram::kind::Kind;
 
@@ -16,7 +16,7 @@ const ABSENT: Item<'static> = Item::Number(Kind::Uint16, 0);
 const PRESENT: Item<'static> = Item::Number(Kind::Uint16, 1);
 
 // Writes items, the first of them as a telegram's first or not, and answers the place behind them.
-pub(crate) fn put_all<S: Spelling>(
+pub(crate) fn put_all<S: FullSpelling>(
     first: bool,
     items: &[Item<'_>],
     out: &mut [u8],
@@ -37,7 +37,7 @@ pub(crate) fn put_all<S: Spelling>(
 }
 
 // Writes the flag of a position and, where there is one, the position.
-fn put_position<S: Spelling>(
+fn put_position<S: FullSpelling>(
     first: bool,
     position: Option<Position>,
     out: &mut [u8],
@@ -68,7 +68,7 @@ fn put_position<S: Spelling>(
 }
 
 // Writes the flag of a name or a comment and, where there is one, its length and its text.
-fn put_label<S: Spelling>(label: Option<&[u8]>, out: &mut [u8], at: usize) -> usize
+fn put_label<S: FullSpelling>(label: Option<&[u8]>, out: &mut [u8], at: usize) -> usize
     requires sized { Sized label }
     requires room { at + length (written S.Spelling.canon false (label_items label)) ≤ length out.old }
     ensures { Put out.old at (written S.Spelling.canon false (label_items label.entry)) out.new result }
@@ -89,7 +89,7 @@ fn put_label<S: Spelling>(label: Option<&[u8]>, out: &mut [u8], at: usize) -> us
 }
 
 // Writes the flag of a time and, where there is one, the time.
-fn put_time<S: Spelling>(time: Option<Time>, out: &mut [u8], at: usize) -> usize
+fn put_time<S: FullSpelling>(time: Option<Time>, out: &mut [u8], at: usize) -> usize
     requires { at + length (written S.Spelling.canon false (time_items time)) ≤ length out.old }
     ensures { Put out.old at (written S.Spelling.canon false (time_items time)) out.new result }
 {
@@ -114,7 +114,7 @@ fn put_time<S: Spelling>(time: Option<Time>, out: &mut [u8], at: usize) -> usize
 }
 
 // Writes the items that the records stand for, and the event's flag, and answers the place behind them.
-pub(crate) fn put_parts<S: Spelling>(
+pub(crate) fn put_parts<S: FullSpelling>(
     first: bool,
     parts: Parts<'_>,
     out: &mut [u8],

@@ -12,7 +12,7 @@ use layout::parts::is_scan;
 use layout::records::Parts;
 use layout::source::Source;
 use spelling::put::{put_blank, put_bytes};
-use spelling::terms::Spelling;
+use spelling::terms::{FullSpelling, Spelling};
 use telegram::refusal::{Reason, Refusal};
 use telegram::row::Row;
 
@@ -24,7 +24,7 @@ struct Measure {
 }
 
 // How many items a telegram has, and how many bytes they take.
-fn gauge<S: Spelling, T: Source>(telegram: &T) -> Measure
+fn gauge<S: FullSpelling, T: Source>(telegram: &T) -> Measure
     requires few { length (T.Source.telegram telegram.now).items ≤ 65536 }
     requires short { length (written S.Spelling.canon true (T.Source.telegram telegram.now).items) ≤ 65536 }
     ensures items { result.items ≡ length (T.Source.telegram telegram.now).items }
@@ -55,7 +55,7 @@ fn put_head(row: Row, out: &mut [u8], at: usize) -> usize
 }
 
 // Writes the first items of a telegram, and answers the place behind them.
-fn put_items<S: Spelling, T: Source>(telegram: &T, n: usize, out: &mut [u8], at: usize) -> usize
+fn put_items<S: FullSpelling, T: Source>(telegram: &T, n: usize, out: &mut [u8], at: usize) -> usize
     requires { at + length (written S.Spelling.canon true (take n (T.Source.telegram telegram.now).items)) ≤ length out.old }
     ensures { Put out.old at (written S.Spelling.canon true (take n (T.Source.telegram telegram.now).items)) out.new result }
 {
@@ -76,7 +76,7 @@ fn put_items<S: Spelling, T: Source>(telegram: &T, n: usize, out: &mut [u8], at:
 }
 
 // Writes the head and the items of a telegram, and answers the place behind them.
-fn put_body<S: Spelling, T: Source>(
+fn put_body<S: FullSpelling, T: Source>(
     telegram: &T,
     parts: Parts<'_>,
     items: usize,
@@ -101,19 +101,19 @@ fn put_body<S: Spelling, T: Source>(
 }
 
 // How long the whole is, envelope and head included, whose items take so many bytes.
-fn whole_length<S: Spelling>(row: Row, bytes: usize) -> usize
+fn whole_length<S: FullSpelling>(row: Row, bytes: usize) -> usize
     requires { bytes ≤ 65536 }
-    ensures { result ≡ S.Spelling.wrap.before + (length (command row ++ (32 ∷ name row)) + bytes + S.Spelling.wrap.after) }
+    ensures { result ≡ S.FullSpelling.wrap.before + (length (command row ++ (32 ∷ name row)) + bytes + S.FullSpelling.wrap.after) }
 {
     let (before, after) = S::margins();
     before + row.command().len() + 1 + row.name().len() + bytes + after
 }
 
 // How many items a telegram has, and how long its canonical spelling is.
-fn gauge_whole<S: Spelling, T: Source>(telegram: &T) -> Measure
+fn gauge_whole<S: FullSpelling, T: Source>(telegram: &T) -> Measure
     requires { Within (T.Source.telegram telegram.now) }
     ensures items { result.items ≡ length (T.Source.telegram telegram.now).items }
-    ensures bytes { result.bytes ≡ length (spelled S.Spelling.canon S.Spelling.wrap (T.Source.telegram telegram.now)) }
+    ensures bytes { result.bytes ≡ length (spelled S.Spelling.canon S.FullSpelling.wrap (T.Source.telegram telegram.now)) }
 {
     let Measure { items, bytes } = gauge::<S, T>(telegram);
     Measure {
@@ -123,9 +123,9 @@ fn gauge_whole<S: Spelling, T: Source>(telegram: &T) -> Measure
 }
 
 // How long the canonical spelling of a telegram is.
-pub fn length<S: Spelling, T: Source>(telegram: &T) -> usize
+pub fn length<S: FullSpelling, T: Source>(telegram: &T) -> usize
     requires { Within (T.Source.telegram telegram.now) }
-    ensures { result ≡ length (spelled S.Spelling.canon S.Spelling.wrap (T.Source.telegram telegram.now)) }
+    ensures { result ≡ length (spelled S.Spelling.canon S.FullSpelling.wrap (T.Source.telegram telegram.now)) }
 {
     gauge_whole::<S, T>(telegram).bytes
 }
@@ -144,12 +144,17 @@ fn fits(out: &[u8], bytes: usize) -> Result<(), Refusal>
 }
 
 // Writes the canonical spelling of a telegram that has so many items.
-fn put_whole<S: Spelling, T: Source>(telegram: &T, parts: Parts<'_>, items: usize, out: &mut [u8])
+fn put_whole<S: FullSpelling, T: Source>(
+    telegram: &T,
+    parts: Parts<'_>,
+    items: usize,
+    out: &mut [u8],
+)
     requires within { Within (T.Source.telegram telegram.now) }
     requires told { Told (T.Source.telegram telegram.now) parts }
     requires counted { items ≡ length (T.Source.telegram telegram.now).items }
-    requires room { length (spelled S.Spelling.canon S.Spelling.wrap (T.Source.telegram telegram.now)) ≤ length out.old }
-    ensures { out.new ≡ spelled S.Spelling.canon S.Spelling.wrap (T.Source.telegram telegram.now) ++ drop (length (spelled S.Spelling.canon S.Spelling.wrap (T.Source.telegram telegram.now))) out.old }
+    requires room { length (spelled S.Spelling.canon S.FullSpelling.wrap (T.Source.telegram telegram.now)) ≤ length out.old }
+    ensures { out.new ≡ spelled S.Spelling.canon S.FullSpelling.wrap (T.Source.telegram telegram.now) ++ drop (length (spelled S.Spelling.canon S.FullSpelling.wrap (T.Source.telegram telegram.now))) out.old }
 {
     let (before, _) = S::margins();
     let end = put_body::<S, T>(telegram, parts, items, out, before);
@@ -157,14 +162,14 @@ fn put_whole<S: Spelling, T: Source>(telegram: &T, parts: Parts<'_>, items: usiz
 }
 
 // Writes the canonical spelling of a telegram at the output's start, unless the output is too short.
-pub fn write<S: Spelling, T: Source>(
+pub fn write<S: FullSpelling, T: Source>(
     telegram: &T,
     parts: Parts<'_>,
     out: &mut [u8],
 ) -> Result<usize, Refusal>
     requires within { Within (T.Source.telegram telegram.now) }
     requires told { Told (T.Source.telegram telegram.now) parts }
-    ensures { Wrote (spelled S.Spelling.canon S.Spelling.wrap (T.Source.telegram telegram.now)) out.old out.new result }
+    ensures { Wrote (spelled S.Spelling.canon S.FullSpelling.wrap (T.Source.telegram telegram.now)) out.old out.new result }
 {
     let Measure { items, bytes } = gauge_whole::<S, T>(telegram);
     match fits(out, bytes) {
