@@ -1,6 +1,7 @@
 -- The catalogue. Assumes nothing.
-use Rattle.std.specs.Prelude.{ℕ, Bool, cond, ◌&&◌, List, [], ◌∷◌, Some, None, codes, Option}
+use Rattle.std.specs.Prelude.{ℕ, Bool, ◌&&◌, List, [], ◌∷◌, codes, Option}
 use Rattle.std.specs.Str.{bytes_eq}
+use Rattle.std.specs.List.{find}
 use Rattle.telegram.specs.declared.row.Row.{Row}
 use Rattle.telegram.specs.declared.row.Row.TheVariants.{SsnScanData, SraScanData, SrnScanData, SenScanData, SeaScanData, SmnRun, SanRun, SmnSetAccessMode, SanSetAccessMode, SmnStoreAll, SanStoreAll, SmnResetOutputs, SanResetOutputs, SrnDeviceState, SraDeviceState, SrnSensorState, SraSensorState, SrnDeviceIdent, SraDeviceIdent, SwnParticle, SwaParticle, SwnMeanFilter, SwaMeanFilter, SwnOneOfN, SwaOneOfN, SwnGate, SwaGate}
 
@@ -74,11 +75,6 @@ rows =
 abbrev pub called : List ℕ → List ℕ → Row → Bool
 called c n r = bytes_eq n (name r) && bytes_eq c (command r)
 
--- the first of some rows that has a type and a name
-abbrev pub seek : List ℕ → List ℕ → List Row → Option Row
-seek c n [] = None
-seek c n (r ∷ rs) = cond (called c n r) (Some r) (seek c n rs)
-
 -- the row of the catalogue with a type and a name
 abbrev pub listed : List ℕ → List ℕ → Option Row
-listed c n = seek c n rows
+listed c n = find (called c n) rows

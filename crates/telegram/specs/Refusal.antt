@@ -1,7 +1,8 @@
 -- The numbers of the refusals. Assumes nothing.
-use Rattle.std.specs.Prelude.{ℕ}
+use Rattle.std.specs.Prelude.{ℕ, List, ◌++◌, codes, decimal}
 use Rattle.telegram.specs.declared.refusal.Reason.{Reason}
 use Rattle.telegram.specs.declared.refusal.Reason.TheVariants.{Size, Envelope, Checksum, Unknown, Cut, Misspelt, Limit, Rest, Room}
+use Rattle.telegram.specs.declared.refusal.Refusal.{Refusal}
 use Rattle.telegram.specs.declared.refusal.Fault.{Fault}
 use Rattle.telegram.specs.declared.refusal.Fault.TheVariants.{Cut as cut, Misspelt as misspelt}
 
@@ -21,3 +22,7 @@ reason_number Room = 9
 abbrev pub fault_number : Fault → ℕ
 fault_number cut = reason_number Cut
 fault_number misspelt = reason_number Misspelt
+
+-- a refusal in words: its number and its place
+abbrev pub told : Refusal → List ℕ
+told e = codes "refused " ++ (decimal (reason_number e.reason) ++ (codes " " ++ decimal e.place))

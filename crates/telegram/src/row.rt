@@ -1,7 +1,6 @@
 // The rows of the catalogue: a type and a name each.
 ghost use Rattle.std.specs.Prelude.{◌≡◌, ℕ, List};
-ghost use Rattle.std.specs.Str.{bytes_eq};
-ghost use Rattle.telegram.specs.Catalogue.{command, name, rows, called, seek, listed};
+ghost use Rattle.telegram.specs.Catalogue.{command, name, rows, called, listed};
 
 // A row goes by the three letters of its type and by what its name stands for.
 #[derive(Clone, Copy)]
@@ -66,13 +65,6 @@ const ROWS: [Row; 27] = [
     Row::SwaGate,
 ];
 
-// Whether two byte strings are equal.
-pub fn same(a: &[u8], b: &[u8]) -> bool
-    ensures { result ≡ bytes_eq a.now b.now }
-{
-    a == b
-}
-
 impl Row {
     // The type, as it stands at a body's start.
     pub fn command(self) -> &'static [u8]
@@ -121,14 +113,17 @@ impl Row {
     pub fn answers_to(self, command: &[u8], name: &[u8]) -> bool
         ensures { result ≡ called command.now name.now self }
     {
-        same(name, self.name()) && same(command, self.command())
+        name == self.name() && command == self.command()
     }
 
     // The row with a type and a name, if the catalogue has it.
     pub fn find(command: &[u8], name: &[u8]) -> Option<Row>
         ensures { result ≡ listed command.now name.now }
     {
-        seek(catalogue(), command, name)
+        catalogue()
+            .iter()
+            .copied()
+            .find(|row| row.answers_to(command, name))
     }
 }
 
@@ -137,16 +132,4 @@ fn catalogue() -> &'static [Row]
     ensures { result.now ≡ rows }
 {
     &ROWS
-}
-
-// The first of some rows that has a type and a name.
-fn seek(rows: &[Row], command: &[u8], name: &[u8]) -> Option<Row>
-    ensures { result ≡ seek command.now name.now rows.now }
-{
-    for row in rows {
-        if row.answers_to(command, name) {
-            return Some(*row);
-        }
-    }
-    None
 }
