@@ -15,10 +15,7 @@ use telegram::row::Row;
 pub fn is_scan(row: Row) -> bool
     ensures { result ≡ is_scan row }
 {
-    match row {
-        Row::SsnScanData | Row::SraScanData => true,
-        _ => false,
-    }
+    matches!(row, Row::SsnScanData | Row::SraScanData)
 }
 
 impl<'a> Parts<'a> {
@@ -37,24 +34,11 @@ impl<'a> Parts<'a> {
     fn labelled(self, label: Label, text: Option<&'a [u8]>) -> Parts<'a>
         ensures { result ≡ with_label label text.entry self.entry }
     {
-        let Parts {
-            position,
-            name,
-            comment,
-            time,
-        } = self;
         match label {
-            Label::Name => Parts {
-                position,
-                name: text,
-                comment,
-                time,
-            },
+            Label::Name => Parts { name: text, ..self },
             Label::Comment => Parts {
-                position,
-                name,
                 comment: text,
-                time,
+                ..self
             },
         }
     }
@@ -63,42 +47,25 @@ impl<'a> Parts<'a> {
         requires { Fitting (wanted (in_optional stage)) (number (value_of item)) }
         ensures { result ≡ noted_in stage item.entry self.entry }
     {
-        let Parts {
-            position,
-            name,
-            comment,
-            time,
-        } = self;
         let value = item.number();
         match stage {
             OptionalStage::PositionFlag => Parts {
                 position: None,
-                name,
-                comment,
-                time,
+                ..self
             },
             OptionalStage::InPosition(PositionField::SendsName, so_far) => Parts {
                 position: Some(set_field(PositionField::SendsName, so_far, value)),
-                name,
-                comment,
-                time,
+                ..self
             },
             OptionalStage::LabelFlag(label) => self.labelled(label, None),
             OptionalStage::LabelText(label, _) => match item {
                 Item::Text(text) => self.labelled(label, Some(text)),
                 _ => self,
             },
-            OptionalStage::TimeFlag => Parts {
-                position,
-                name,
-                comment,
-                time: None,
-            },
+            OptionalStage::TimeFlag => Parts { time: None, ..self },
             OptionalStage::InTime(TimeField::Microsecond, so_far) => Parts {
-                position,
-                name,
-                comment,
                 time: Some(set_hand(TimeField::Microsecond, so_far, value)),
+                ..self
             },
             _ => self,
         }

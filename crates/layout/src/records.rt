@@ -1,7 +1,7 @@
 // The optional parts of scan data, as plain records.
 
 // Where the device stands: coordinates and rotations as Real patterns, the kind of rotation, and whether its name is sent.
-#[derive(Clone, Copy, PartialEq, Eq)]
+#[derive(Clone, Copy, Debug, Default, PartialEq, Eq)]
 pub struct Position {
     pub x: u32,
     pub y: u32,
@@ -14,7 +14,7 @@ pub struct Position {
 }
 
 // When the scan was taken.
-#[derive(Clone, Copy, PartialEq, Eq)]
+#[derive(Clone, Copy, Debug, Default, PartialEq, Eq)]
 pub struct Time {
     pub year: u16,
     pub month: u8,
@@ -32,31 +32,4 @@ pub struct Parts<'a> {
     pub name: Option<&'a [u8]>,
     pub comment: Option<&'a [u8]>,
     pub time: Option<Time>,
-}
-
-impl Position {
-    // Nothing of a position yet.
-    pub const UNKNOWN: Position = Position {
-        x: 0,
-        y: 0,
-        z: 0,
-        x_rotation: 0,
-        y_rotation: 0,
-        z_rotation: 0,
-        rotation_type: 0,
-        sends_name: 0,
-    };
-}
-
-impl Time {
-    // Nothing of a time yet.
-    pub const UNKNOWN: Time = Time {
-        year: 0,
-        month: 0,
-        day: 0,
-        hour: 0,
-        minute: 0,
-        second: 0,
-        microsecond: 0,
-    };
 }
