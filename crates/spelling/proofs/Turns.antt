@@ -2,6 +2,8 @@
 use Rattle.std.proofs.Common.{◌≡◌, ℕ, ◌+◌, ◌<◌, ◌≤◌, true, List, [], length, None, Ok, sym, refl, ap, ◌∙◌, subst}
 use Rattle.std.proofs.lemmas.Bool.{lt-ltb, le-ltb}
 use Rattle.layout.specs.declared.cursor.Cursor.{Cursor}
+use Rattle.telegram.specs.declared.item.Item.{Item}
+use Rattle.telegram.specs.declared.item.Placed.{Placed}
 use Rattle.telegram.specs.declared.row.Row.{Row}
 use Rattle.layout.specs.declared.records.Parts.{Parts}
 use Rattle.telegram.specs.declared.refusal.Reason.TheVariants.{Rest}
@@ -15,7 +17,7 @@ use Rattle.layout.proofs.Times.{falls}
 use Rattle.layout.proofs.Tellings.{Tale, tale_none, turn, told, kept_scan}
 use Rattle.spelling.specs.Spell.{Find}
 use Rattle.spelling.specs.Walk.{halt, stop, onward}
-use Rattle.spelling.specs.Check.{Passed, Walks, Checks, over, starting}
+use Rattle.spelling.specs.Check.{Passed, Stepped, Walks, Checks, over, starting}
 use Rattle.spelling.proofs.Walks.{on_end, begun, closed_over, closed_items}
 
 -- a check that began at a cursor has come to another, with the parts so far
@@ -61,16 +63,16 @@ module _ (find : Find) (t : List ℕ) (row : Row) (start : ℕ) (p : Progress) (
 pub passing_more : (find : Find) (t : List ℕ) (from at next : Cursor) (parts after : Parts) → Passing find t from at parts → Passed find t at parts next after → Passing find t from next after
 passing_more find t from at next parts after h x =
     let all = values (onward find t from).items in
-    let here : values (onward find t at).items ≡ _ = ap (λ w. values w.items) x.goes_on in
+    let here : values (onward find t at).items ≡ _ = ap (λ w. values w.items) x.on.goes_on in
     record {
-      inside = x.inside;
-      ending = sym (ap (λ w. w.ending) x.goes_on) ∙ h.ending;
-      scan = kept_scan at.progress.stage _ next.progress.stage x.goes ∙ h.scan;
+      inside = x.on.inside;
+      ending = sym (ap (λ w. w.ending) x.on.goes_on) ∙ h.ending;
+      scan = kept_scan at.progress.stage _ next.progress.stage x.on.goes ∙ h.scan;
       tale =
           subst (Tale (scanning from.progress.stage) (todo from.progress.stage) all (values (onward find t next).items) next.progress.stage next.progress.room) (sym x.has)
-          (turn (todo from.progress.stage) all (values (onward find t next).items) at.progress.room next.progress.room parts next.progress.stage (scanning from.progress.stage) at.progress.stage x.item h.scan x.asked x.stepped x.goes
+          (turn (todo from.progress.stage) all (values (onward find t next).items) at.progress.room next.progress.room parts next.progress.stage (scanning from.progress.stage) at.progress.stage x.item.value h.scan x.on.asked x.on.stepped x.on.goes
           (subst (λ l. Tale (scanning from.progress.stage) (todo from.progress.stage) all l at.progress.stage at.progress.room parts) here h.tale));
     }
 
-pub passed_less : (find : Find) (t : List ℕ) (at next : Cursor) (parts after : Parts) → Passed find t at parts next after → weight (todo next.progress.stage) + next.progress.room < weight (todo at.progress.stage) + at.progress.room
-passed_less find t at next parts after x = falls (todo at.progress.stage) at.progress.room _ (stands next.progress) x.stepped
+pub stepped_less : (find : Find) (t : List ℕ) (at next : Cursor) (item : Placed Item) → Stepped find t at item next → weight (todo next.progress.stage) + next.progress.room < weight (todo at.progress.stage) + at.progress.room
+stepped_less find t at next item x = falls (todo at.progress.stage) at.progress.room _ (stands next.progress) x.stepped

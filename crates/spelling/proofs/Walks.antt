@@ -1,6 +1,6 @@
 -- One turn of the walk, whatever the spelling. Assumes nothing.
 use Rattle.std.proofs.Common.{◌≡◌, ℕ, zero, suc, ◌+◌, ◌-◌, ◌<◌, ◌≤◌, Bool, true, false, ltb, List, [], ◌∷◌, length, drop, Some, None, Option, sym, refl, ap, ◌∙◌, subst, arith}
-use Rattle.std.proofs.lemmas.List.{length-drop, at_drop_more, at_drop_all}
+use Rattle.std.proofs.lemmas.List.{length-drop, drop-drop, at_drop_more, at_drop_all}
 use Rattle.std.proofs.lemmas.Bool.{ltb-true, ltb-false}
 use Rattle.telegram.specs.declared.refusal.Fault.{Fault}
 use Rattle.telegram.specs.declared.item.Want.{Want}
@@ -106,9 +106,16 @@ module _ (find : Find) (t : List ℕ) (at : Cursor) where
         ∙ ap (λ x. more (record { value = v; from = at.place; to = x }) (after (m - 1))) (omega (arith, length-drop to t))
         ∙ ap (more (record { value = v; from = at.place; to = to })) (steady find (length t) (m - 1) (weight (todo q.stage) + q.room) false (todo q.stage) q.room (drop to t) (omega arith) (omega arith))
 
--- where the same is left, the same comes
-pub alike : (find : Find) (t : List ℕ) (at : Cursor) (to : ℕ) → drop to t ≡ drop at.place t → onward find t at ≡ onward find t (record { place = to; first = at.first; progress = at.progress })
-alike find t at to e = ap (walk find (weight (todo at.progress.stage) + at.progress.room) (length t) at.first (todo at.progress.stage) at.progress.room) (sym e)
+-- what is found at the start of what stands from a place on
+module _ (f : List ℕ → Spelt) (t rest : List ℕ) (p : ℕ) (is : rest ≡ drop p t) where
+  pub faulted : (e : Fault) → f rest ≡ faulty e → f (drop p t) ≡ faulty e
+  faulted e h = ap f (sym is) ∙ h
+
+  pub behind : (v : Value) (n : ℕ) → f rest ≡ found v (drop n rest) → f (drop p t) ≡ found v (drop (p + n) t)
+  behind v n h = ap f (sym is) ∙ h ∙ ap (λ r. found v (drop n r)) is ∙ ap (found v) (drop-drop n p t)
+
+  pub behind_inside : (n : ℕ) → p ≤ length t → n ≤ length rest → p + n ≤ length t
+  behind_inside n h k = omega (arith, h, k, ap length is, length-drop p t)
 
 pub closed_rest : (t : List ℕ) (at : ℕ) → at < length t → (closed (length t) (drop at t)).ending ≡ halt (reason_number Rest) at
 closed_rest t at h = at_drop_more (λ bs. (closed (length t) bs).ending) t at 0 h ∙ ap (halt (reason_number Rest)) (omega (arith, length-drop (at + 1) t))

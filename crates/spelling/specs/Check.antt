@@ -1,6 +1,7 @@
 -- What a check of a row's items answers. Assumes nothing.
 use Rattle.std.specs.Prelude.{◌≡◌, ℕ, ◌+◌, ◌≤◌, Bool, true, false, List, length, drop, Some, Ok, Err, Result, nat_lt}
 use Rattle.telegram.specs.declared.item.Item.{Item}
+use Rattle.telegram.specs.declared.item.Placed.{Placed}
 use Rattle.layout.specs.declared.cursor.Cursor.{Cursor}
 use Rattle.telegram.specs.declared.row.Row.{Row}
 use Rattle.layout.specs.declared.records.Parts.{Parts}
@@ -9,25 +10,30 @@ use Rattle.telegram.specs.declared.refusal.Refusal.{Refusal}
 use Rattle.telegram.specs.Refusal.{reason_number}
 use Rattle.telegram.specs.Value.{want, number, value_of}
 use Rattle.layout.specs.Layout.{layout, limit, weight, wanted, advance, is_scan}
-use Rattle.layout.specs.Follow.{todo, stands}
+use Rattle.layout.specs.Follow.{todo, stands, Fitting}
 use Rattle.layout.specs.Passing.{Goes, noted}
-use Rattle.layout.specs.Source.{values, Tells}
+use Rattle.layout.specs.Source.{values, seen_of, Tells}
 use Rattle.spelling.specs.Spell.{Find}
 use Rattle.spelling.specs.Walk.{Walk, Ending, whole, halt, stop, more, walk, onward}
 
--- an item was passed: the walk goes on behind it, and the records have it
-pub record Passed (find : Find) (t : List ℕ) (at : Cursor) (parts : Parts) (next : Cursor) (after : Parts) : Type 0 where
-  pub item : Item
-  pub goes_on : onward find t at ≡ more (record { value = value_of item; from = at.place; to = next.place }) (onward find t next)
+-- an item was passed: the walk goes on behind it
+pub record Stepped (find : Find) (t : List ℕ) (at : Cursor) (item : Placed Item) (next : Cursor) : Type 0 where
+  pub goes_on : onward find t at ≡ more (seen_of item) (onward find t next)
   pub inside : next.place ≤ length t
-  pub asked : Some (want (value_of item)) ≡ wanted (todo at.progress.stage)
-  pub stepped : advance (todo at.progress.stage) at.progress.room (number (value_of item)) ≡ Some (stands next.progress)
-  pub goes : Goes at.progress.stage (number (value_of item)) next.progress.stage
-  pub has : after ≡ noted at.progress.stage item parts
+  pub asked : Some (want (value_of item.value)) ≡ wanted (todo at.progress.stage)
+  pub fits : Fitting (wanted (todo at.progress.stage)) (number (value_of item.value))
+  pub stepped : advance (todo at.progress.stage) at.progress.room (number (value_of item.value)) ≡ Some (stands next.progress)
+  pub goes : Goes at.progress.stage (number (value_of item.value)) next.progress.stage
 
-abbrev pub Passes : Find → List ℕ → Cursor → Parts → Result (Cursor × Parts) Refusal → Type 0
-Passes find t at parts (Ok p) = Passed find t at parts p.0 p.1
-Passes find t at parts (Err e) = onward find t at ≡ stop (halt (reason_number e.reason) e.place)
+abbrev pub Steps : Find → List ℕ → Cursor → Result (Placed Item × Cursor) Refusal → Type 0
+Steps find t at (Ok p) = Stepped find t at p.0 p.1
+Steps find t at (Err e) = onward find t at ≡ stop (halt (reason_number e.reason) e.place)
+
+-- an item was passed, and the records have it
+pub record Passed (find : Find) (t : List ℕ) (at : Cursor) (parts : Parts) (next : Cursor) (after : Parts) : Type 0 where
+  pub item : Placed Item
+  pub on : Stepped find t at item next
+  pub has : after ≡ noted at.progress.stage item.value parts
 
 -- the walk along a row's whole layout, where the items begin at a place
 abbrev pub starting : Find → Row → List ℕ → ℕ → Walk

@@ -1,5 +1,5 @@
 // How a family of framings differs: in the envelope, and in how one item is spelt.
-ghost use Rattle.std.specs.Prelude.{◌≡◌, ℕ, ◌+◌, ◌-◌, ◌≤◌, Bool, length, drop};
+ghost use Rattle.std.specs.Prelude.{◌≡◌, ℕ, ◌+◌, ◌-◌, ◌≤◌, Bool, length};
 ghost use Rattle.telegram.specs.Value.{value_of};
 ghost use Rattle.spelling.specs.Canon.{Canon, Back};
 ghost use Rattle.spelling.specs.Spell.{Opens, Find, Inside, Sound, Adjoining, Opening, Finds};
@@ -34,15 +34,9 @@ pub trait Spelling {
     fn spares_blank() -> bool
         ensures { result ≡ spare };
 
-    // The item at a place, with the place behind it. `text` is the input up to the body's end; `first` says that no item came before.
-    fn find<'b>(
-        first: bool,
-        want: Want,
-        text: &'b [u8],
-        at: usize,
-    ) -> Result<(Item<'b>, usize), Fault>
-        requires { at ≤ length text.now }
-        ensures { Finds text.now (finds first want (drop at text.now)) result };
+    // The item that bytes begin with, up to the body's end, and how many of them it takes; `first` says that no item came before.
+    fn find<'b>(first: bool, want: Want, bytes: &'b [u8]) -> Result<(Item<'b>, usize), Fault>
+        ensures { Finds bytes.now (finds first want bytes.now) result };
 
     ghost inside: { Inside opens };
 

@@ -1,10 +1,17 @@
-// A text of a stated length, which every spelling finds alike.
-ghost use Rattle.std.specs.Prelude.{◌≡◌, ℕ, ◌+◌, ◌≤◌, length, drop};
+// Parts of an input: what stands from a place on, and a text of a stated length, which every spelling finds alike.
+ghost use Rattle.std.specs.Prelude.{◌≡◌, drop};
 ghost use Rattle.telegram.specs.Value.{printable, textual};
 ghost use Rattle.spelling.specs.Spell.{Finds, text_of};
 
 use telegram::item::Item;
 use telegram::refusal::Fault;
+
+// What stands from a place on.
+pub fn tail(bytes: &[u8], from: usize) -> &[u8]
+    ensures { result.now ≡ drop from bytes.now }
+{
+    bytes.get(from..).unwrap_or(&[])
+}
 
 // Whether a byte may stand in a text.
 fn is_textual(b: u8) -> bool
@@ -19,25 +26,16 @@ fn is_textual(b: u8) -> bool
 fn all_printable(bytes: &[u8]) -> bool
     ensures { result ≡ printable bytes.now }
 {
-    for b in bytes {
-        if !is_textual(*b) {
-            return false;
-        }
-    }
-    true
+    bytes.iter().all(|b| is_textual(*b))
 }
 
-// The text of `len` bytes at a place.
-pub fn text_at<'b>(text: &'b [u8], at: usize, len: usize) -> Result<(Item<'b>, usize), Fault>
-    requires { at ≤ length text.now }
-    ensures { Finds text.now (text_of len (drop at text.now)) result }
+// The text of `len` bytes that stands first.
+pub fn text_of<'b>(len: usize, bytes: &'b [u8]) -> Result<(Item<'b>, usize), Fault>
+    ensures { Finds bytes.now (text_of len bytes.now) result }
 {
-    if text.len() - at < len {
-        return Err(Fault::Cut);
-    }
-    let found = &text[at..at + len];
-    if all_printable(found) {
-        Ok((Item::Text(found), at + len))
+    let text = bytes.get(..len).ok_or(Fault::Cut)?;
+    if all_printable(text) {
+        Ok((Item::Text(text), len))
     } else {
         Err(Fault::Misspelt)
     }

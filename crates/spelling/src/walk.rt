@@ -4,9 +4,10 @@ ghost use Rattle.layout.specs.Layout.{wanted};
 ghost use Rattle.layout.specs.Follow.{todo};
 ghost use Rattle.layout.specs.Source.{Pulled};
 ghost use Rattle.spelling.specs.Walk.{left};
-ghost use Rattle.spelling.specs.Check.{Checks, Passes, Walks};
+ghost use Rattle.spelling.specs.Check.{Checks, Steps, Walks};
 
 use crate::terms::Spelling;
+use crate::text::tail;
 use layout::cursor::Cursor;
 use layout::records::Parts;
 use layout::stage::Progress;
@@ -14,40 +15,32 @@ use telegram::item::{Item, Placed, Want};
 use telegram::refusal::{Reason, Refusal};
 use telegram::row::Row;
 
-// One item more: the cursor behind it, and the optional parts with it.
-fn pass<'b, S: Spelling>(
+// The item at a cursor, and the cursor behind it.
+fn step<'b, S: Spelling>(
     text: &'b [u8],
     at: Cursor,
     want: Want,
-    parts: Parts<'b>,
-) -> Result<(Cursor, Parts<'b>), Refusal>
+) -> Result<(Placed<Item<'b>>, Cursor), Refusal>
     requires inside { at.place ≤ length text.now }
     requires asked { Some want ≡ wanted (todo at.progress.stage) }
-    ensures { Passes S.Spelling.finds text.now at parts.entry result }
+    ensures { Steps S.Spelling.finds text.now at result }
 {
     let place = at.place;
-    let progress = at.progress;
-    let (item, end) = match S::find(at.first, want, text, place) {
+    let (value, taken) = match S::find(at.first, want, tail(text, place)) {
         Ok(found) => found,
-        Err(fault) => return Err(Refusal {
-            reason: fault.reason(),
-            place,
-        }),
+        Err(fault) => return Err(Reason::from(fault).at(place)),
     };
-    match progress.next(item.number()) {
-        Some(after) => Ok((
-            Cursor {
-                place: end,
-                first: false,
-                progress: after,
-            },
-            parts.note(progress.stage, item),
-        )),
-        None => Err(Refusal {
-            reason: Reason::Limit,
-            place,
-        }),
-    }
+    let progress = at
+        .progress
+        .next(value.number())
+        .ok_or(Reason::Limit.at(place))?;
+    let end = place + taken;
+    let next = Cursor {
+        place: end,
+        first: false,
+        progress,
+    };
+    Ok((Placed { value, place, end }, next))
 }
 
 // Whether bytes are left over from a place on.
@@ -76,9 +69,9 @@ fn walk<'b, S: Spelling>(
         let Some(want) = at.progress.want() else {
             break;
         };
-        let (next, noted) = pass::<S>(text, at, want, parts)?;
+        let (item, next) = step::<S>(text, at, want)?;
+        parts = parts.note(at.progress.stage, item.value);
         at = next;
-        parts = noted;
     }
     Ok((at.place, parts))
 }
@@ -90,44 +83,16 @@ pub fn check<'b, S: Spelling>(text: &'b [u8], row: Row, start: usize) -> Result<
 {
     let (end, parts) = walk::<S>(text, row, start)?;
     if bytes_left(text, end) {
-        return Err(Refusal {
-            reason: Reason::Rest,
-            place: end,
-        });
+        return Err(Reason::Rest.at(end));
     }
     Ok(parts)
 }
 
-// A place in the text from which on stands the same.
-fn within(text: &[u8], place: usize) -> usize
-    ensures same { drop result text.now ≡ drop place text.now }
-    ensures inside { result ≤ length text.now }
-{
-    if place <= text.len() {
-        place
-    } else {
-        text.len()
-    }
-}
-
-// The item at a cursor, and the cursor of the next one.
+// The item at a cursor, and the cursor of the next one. A place behind the text's end counts as its end.
 pub fn next<'b, S: Spelling>(text: &'b [u8], at: Cursor) -> Option<(Placed<Item<'b>>, Cursor)>
     ensures { Pulled (left S.Spelling.finds text.now) at result }
 {
-    let place = within(text, at.place);
     let want = at.progress.want()?;
-    match S::find(at.first, want, text, place) {
-        Ok((value, end)) => match at.progress.next(value.number()) {
-            Some(progress) => Some((
-                Placed { value, place, end },
-                Cursor {
-                    place: end,
-                    first: false,
-                    progress,
-                },
-            )),
-            None => None,
-        },
-        Err(_) => None,
-    }
+    let place = at.place.min(text.len());
+    step::<S>(text, Cursor { place, ..at }, want).ok()
 }

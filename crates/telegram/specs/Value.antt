@@ -1,5 +1,6 @@
 -- Values, and what a layout asks for. Assumes nothing.
-use Rattle.std.specs.Prelude.{◌≡◌, ℕ, ◌<◌, Bool, true, ◌&&◌, List, [], ◌∷◌, length, nat_le}
+use Rattle.std.specs.Prelude.{◌≡◌, ℕ, ◌<◌, Bool, true, ◌&&◌, List, length, nat_le}
+use Rattle.std.specs.List.{list_all}
 use Rattle.telegram.specs.declared.kind.Kind.{Kind}
 use Rattle.telegram.specs.declared.item.Want.{Want}
 use Rattle.telegram.specs.declared.item.Want.TheVariants.{Number as a_number, Real as a_real, Text as a_text}
@@ -36,8 +37,7 @@ abbrev pub textual : ℕ → Bool
 textual c = nat_le 32 c && nat_le c 126
 
 abbrev pub printable : List ℕ → Bool
-printable [] = true
-printable (c ∷ cs) = textual c && printable cs
+printable cs = list_all textual cs
 
 -- a pattern of its kind, or a text of textual bytes
 abbrev pub Good : Value → Type 0
