@@ -3,7 +3,7 @@ use Rattle.std.specs.Prelude.{◌≡◌, ℕ, ◌+◌, ◌-◌, ◌*◌, ◌<◌
 use Rattle.cola_a.specs.declared.digits.Base.{Base}
 use Rattle.cola_a.specs.declared.digits.Base.TheVariants.{Ten, Sixteen}
 use Rattle.cola_a.specs.declared.digits.Glyph.{Glyph}
-use Rattle.cola_a.specs.declared.digits.Glyph.TheVariants.{Digit, Blank, Wrong}
+use Rattle.cola_a.specs.declared.digits.Glyph.TheVariants.{Digit, Blank}
 use Rattle.cola_a.specs.declared.digits.Digits.{Digits}
 
 -- the number that a digit stands for, 0 to 9 and A to F, and 16 for any other byte
@@ -28,12 +28,12 @@ run base most n v (c ∷ cs) =
     cond (c == 32) (ran n v (c ∷ cs)) (cond (nat_lt (digit c) base && nat_lt n most) more broken)
 
 -- what a byte is after n digits of a base: one more, the blank behind them, or neither
-abbrev pub Says : ℕ → ℕ → ℕ → ℕ → Glyph → Type 0
-Says base most n c (Digit d) = (c ≢ 32) × (d ≡ digit c) × (d < base) × (n < most)
-Says base most n c Blank = c ≡ 32
-Says base most n c Wrong = (c ≢ 32) × ((nat_lt (digit c) base && nat_lt n most) ≡ false)
+abbrev pub Says : ℕ → ℕ → ℕ → ℕ → Option Glyph → Type 0
+Says base most n c (Some (Digit d)) = (c ≢ 32) × (d ≡ digit c) × (d < base) × (n < most)
+Says base most n c (Some Blank) = c ≡ 32
+Says base most n c None = (c ≢ 32) × ((nat_lt (digit c) base && nat_lt n most) ≡ false)
 
--- the answer that reading a run in a text gives
+-- the answer that reading the run at the start of bytes gives
 abbrev pub Runs : List ℕ → Run → Option Digits → Type 0
-Runs text r (Some d) = (r ≡ ran d.count d.value (drop d.end text)) × (d.end ≤ length text)
-Runs text r None = r ≡ broken
+Runs bs r (Some d) = (r ≡ ran d.count d.value (drop d.count bs)) × (d.count ≤ length bs)
+Runs bs r None = r ≡ broken

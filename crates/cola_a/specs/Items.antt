@@ -1,15 +1,18 @@
 -- How an item is spelt in a text. Assumes nothing.
-use Rattle.std.specs.Prelude.{◌≡◌, ℕ, ◌-◌, ◌*◌, ◌<◌, Bool, true, false, cond, ◌&&◌, ◌||◌, List, [], ◌∷◌, ◌==◌, nat_le, nat_lt}
+use Rattle.std.specs.Prelude.{◌≡◌, ℕ, ◌-◌, ◌*◌, ◌<◌, Bool, true, false, cond, ◌&&◌, ◌||◌, List, [], ◌∷◌, Ok, Err, Result, ◌==◌, nat_le, nat_lt}
 use Rattle.telegram.specs.declared.kind.Kind.{Kind}
 use Rattle.telegram.specs.declared.kind.Kind.TheVariants.{Bool as Truth, Uint8, Uint16, Uint32, Int8, Int32}
 use Rattle.telegram.specs.declared.item.Want.{Want}
 use Rattle.telegram.specs.declared.item.Want.TheVariants.{Number, Real, Text}
+use Rattle.telegram.specs.declared.refusal.Fault.{Fault}
 use Rattle.telegram.specs.declared.refusal.Fault.TheVariants.{Misspelt}
 use Rattle.telegram.specs.Kind.{bytes, patterns}
 use Rattle.telegram.specs.Value.{num, real}
 use Rattle.spelling.specs.Spell.{Spelt, found, faulty, Find, text_of, blanked}
+use Rattle.cola_a.specs.declared.items.Sign.{Sign}
+use Rattle.cola_a.specs.declared.items.Sign.TheVariants.{Plus, Minus}
 use Rattle.cola_a.specs.declared.items.Lead.{Lead}
-use Rattle.cola_a.specs.declared.items.Lead.TheVariants.{Plus, Minus, Digit, Wrong}
+use Rattle.cola_a.specs.declared.items.Lead.TheVariants.{Signed, Digit}
 use Rattle.cola_a.specs.Digits.{digit, Run, ran, broken, run}
 
 -- how many numbers, from 0 up, may stand behind a plus
@@ -38,6 +41,15 @@ hexadecimal k broken = faulty Misspelt
 -- the pattern of a number behind a sign: of a negative one, what it lacks to all patterns
 abbrev pub pattern : Kind → Bool → ℕ → ℕ
 pattern k minus v = cond (minus && nat_lt 0 v) (patterns k - v) v
+
+-- the letter of a sign, + or -
+abbrev pub letter_of : Sign → ℕ
+letter_of Plus = 43
+letter_of Minus = 45
+
+abbrev pub is_minus : Sign → Bool
+is_minus Plus = false
+is_minus Minus = true
 
 -- one digit or more, and the number lies in the range of the kind
 abbrev pub decimal : Kind → Bool → Run → Spelt
@@ -78,8 +90,7 @@ signs Real = false
 signs (Text n) = false
 
 -- how an item begins: with a sign if it may have one, with a digit, or wrongly
-abbrev pub Leads : Want → ℕ → Lead → Type 0
-Leads w c Plus = (signs w ≡ true) × (c ≡ 43)
-Leads w c Minus = (signs w ≡ true) × (c ≡ 45)
-Leads w c Digit = digit c < 16
-Leads w c Wrong = (digit c ≡ 16) × ((signs w && (c == 43 || c == 45)) ≡ false)
+abbrev pub Leads : Want → ℕ → Result Lead Fault → Type 0
+Leads w c (Ok (Signed s)) = (signs w ≡ true) × (c ≡ letter_of s)
+Leads w c (Ok Digit) = digit c < 16
+Leads w c (Err e) = (e ≡ Misspelt) × (digit c ≡ 16) × ((signs w && (c == 43 || c == 45)) ≡ false)

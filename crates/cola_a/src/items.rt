@@ -1,23 +1,28 @@
 // Items, with the blank before them.
-ghost use Rattle.std.specs.Prelude.{◌≡◌, ℕ, ◌*◌, ◌≤◌, length, drop, ◌==◌};
-ghost use Rattle.telegram.specs.Kind.{bytes};
+ghost use Rattle.std.specs.Prelude.{◌≡◌, ℕ, ◌*◌, ◌≤◌, cond, ◌==◌};
+ghost use Rattle.telegram.specs.Kind.{bytes, patterns};
 ghost use Rattle.spelling.specs.Spell.{Finds, blanked};
 ghost use Rattle.cola_a.specs.Digits.{run};
-ghost use Rattle.cola_a.specs.Items.{upward, downward, hexadecimal, decimal, number_after, real_after, bare, signs, Leads};
+ghost use Rattle.cola_a.specs.Items.{upward, downward, hexadecimal, is_minus, pattern, decimal, number_after, real_after, bare, signs, Leads};
 
-use crate::digits::{Base, digits_at};
-use spelling::text::text_at;
+use crate::digits::{Base, Digits, digits_of};
+use spelling::text::text_of;
 use telegram::item::{Item, Want};
 use telegram::kind::Kind;
 use telegram::refusal::Fault;
 
+// A sign, of a number in decimal.
+#[derive(Clone, Copy, PartialEq, Eq)]
+pub enum Sign {
+    Plus,
+    Minus,
+}
+
 // How an item begins: with a sign for decimal, or with a digit for hexadecimal.
 #[derive(Clone, Copy)]
 pub enum Lead {
-    Plus,
-    Minus,
+    Signed(Sign),
     Digit,
-    Wrong,
 }
 
 // Whether what is wanted may have a sign: a number may, a Real not.
@@ -31,14 +36,14 @@ fn takes_sign(want: Want) -> bool
 }
 
 // How what is wanted begins, by its first byte.
-fn lead_of(want: Want, first: u8) -> Lead
+fn lead_of(want: Want, first: u8) -> Result<Lead, Fault>
     ensures { Leads want first result }
 {
     match first {
-        b'+' if takes_sign(want) => Lead::Plus,
-        b'-' if takes_sign(want) => Lead::Minus,
-        b'0'..=b'9' | b'A'..=b'F' => Lead::Digit,
-        _ => Lead::Wrong,
+        b'+' if takes_sign(want) => Ok(Lead::Signed(Sign::Plus)),
+        b'-' if takes_sign(want) => Ok(Lead::Signed(Sign::Minus)),
+        b'0'..=b'9' | b'A'..=b'F' => Ok(Lead::Digit),
+        _ => Err(Fault::Misspelt),
     }
 }
 
@@ -64,96 +69,95 @@ fn down(kind: Kind) -> u64
     }
 }
 
-// A number in hexadecimal, by the pattern of its full width.
-fn plain<'b>(text: &'b [u8], from: usize, kind: Kind) -> Result<(Item<'b>, usize), Fault>
-    requires { from ≤ length text.now }
-    ensures { Finds text.now (hexadecimal kind (run 16 (2 * bytes kind) 0 0 (drop from text.now))) result }
+// How many numbers, from 0 on, may stand behind a sign.
+fn limit(kind: Kind, sign: Sign) -> u64
+    ensures { result ≡ cond (is_minus sign) (downward kind) (upward kind) }
 {
-    let Some(digits) = digits_at(text, from, Base::Sixteen, 2 * kind.width()) else {
-        return Err(Fault::Misspelt);
-    };
-    if digits.count == 0 || digits.value >= kind.span() {
+    match sign {
+        Sign::Plus => up(kind),
+        Sign::Minus => down(kind),
+    }
+}
+
+// The pattern of a number behind a sign: of a negative one, what it lacks to all patterns.
+fn pattern(kind: Kind, sign: Sign, value: u64) -> u64
+    requires { value ≤ patterns kind }
+    ensures { result ≡ pattern kind (is_minus sign) value }
+{
+    match (sign, value) {
+        (Sign::Plus, _) | (Sign::Minus, 0) => value,
+        (Sign::Minus, _) => kind.span() - value,
+    }
+}
+
+// A number in hexadecimal, by the pattern of its full width.
+fn plain<'b>(kind: Kind, bytes: &'b [u8]) -> Result<(Item<'b>, usize), Fault>
+    ensures { Finds bytes.now (hexadecimal kind (run 16 (2 * bytes kind) 0 0 bytes.now)) result }
+{
+    let Digits { count, value } = digits_of(bytes, Base::Sixteen, 2 * kind.width()).ok_or(
+        Fault::Misspelt,
+    )?;
+    if count == 0 || value >= kind.span() {
         return Err(Fault::Misspelt);
     }
-    Ok((Item::Number(kind, digits.value as u32), digits.end))
+    Ok((Item::Number(kind, value as u32), count))
 }
 
 // A number in decimal, behind its sign.
-fn signed<'b>(
-    text: &'b [u8],
-    from: usize,
-    kind: Kind,
-    minus: bool,
-) -> Result<(Item<'b>, usize), Fault>
-    requires { from ≤ length text.now }
-    ensures { Finds text.now (decimal kind minus (run 10 10 0 0 (drop from text.now))) result }
+fn signed<'b>(kind: Kind, sign: Sign, bytes: &'b [u8]) -> Result<(Item<'b>, usize), Fault>
+    ensures { Finds bytes.now (decimal kind (is_minus sign) (run 10 10 0 0 bytes.now)) result }
 {
-    let Some(digits) = digits_at(text, from, Base::Ten, 10) else {
-        return Err(Fault::Misspelt);
-    };
-    let limit = if minus { down(kind) } else { up(kind) };
-    if digits.count == 0 || digits.value >= limit {
+    let Digits { count, value } = digits_of(bytes, Base::Ten, 10).ok_or(Fault::Misspelt)?;
+    if count == 0 || value >= limit(kind, sign) {
         return Err(Fault::Misspelt);
     }
-    let pattern = if minus && digits.value > 0 {
-        kind.span() - digits.value
-    } else {
-        digits.value
-    };
-    Ok((Item::Number(kind, pattern as u32), digits.end))
+    Ok((Item::Number(kind, pattern(kind, sign, value) as u32), count))
 }
 
 // The eight digits of a Real.
-fn eight<'b>(text: &'b [u8], from: usize) -> Result<(Item<'b>, usize), Fault>
-    requires { from ≤ length text.now }
-    ensures { Finds text.now (real_after (drop from text.now)) result }
+fn eight<'b>(bytes: &'b [u8]) -> Result<(Item<'b>, usize), Fault>
+    ensures { Finds bytes.now (real_after bytes.now) result }
 {
-    let Some(digits) = digits_at(text, from, Base::Sixteen, 8) else {
-        return Err(Fault::Misspelt);
-    };
-    if digits.count != 8 {
+    let Digits { count, value } = digits_of(bytes, Base::Sixteen, 8).ok_or(Fault::Misspelt)?;
+    if count != 8 {
         return Err(Fault::Misspelt);
     }
-    Ok((Item::Real(digits.value as u32), digits.end))
+    Ok((Item::Real(value as u32), count))
 }
 
 // A number of a kind: a sign for decimal, or a digit for hexadecimal.
-fn number_after<'b>(text: &'b [u8], at: usize, kind: Kind) -> Result<(Item<'b>, usize), Fault>
-    ensures { Finds text.now (number_after kind (drop at text.now)) result }
+fn number_after<'b>(kind: Kind, bytes: &'b [u8]) -> Result<(Item<'b>, usize), Fault>
+    ensures { Finds bytes.now (number_after kind bytes.now) result }
 {
-    if at >= text.len() {
-        return Err(Fault::Misspelt);
-    }
-    match lead_of(Want::Number(kind), text[at]) {
-        Lead::Plus => signed(text, at + 1, kind, false),
-        Lead::Minus => signed(text, at + 1, kind, true),
-        Lead::Digit => plain(text, at, kind),
-        Lead::Wrong => Err(Fault::Misspelt),
+    let (first, behind) = bytes.split_first().ok_or(Fault::Misspelt)?;
+    match lead_of(Want::Number(kind), *first)? {
+        Lead::Signed(sign) => {
+            let (item, taken) = signed(kind, sign, behind)?;
+            Ok((item, 1 + taken))
+        }
+        Lead::Digit => plain(kind, bytes),
     }
 }
 
 // A Real: eight hexadecimal digits.
-fn real_after<'b>(text: &'b [u8], at: usize) -> Result<(Item<'b>, usize), Fault>
-    ensures { Finds text.now (real_after (drop at text.now)) result }
+fn real_after<'b>(bytes: &'b [u8]) -> Result<(Item<'b>, usize), Fault>
+    ensures { Finds bytes.now (real_after bytes.now) result }
 {
-    if at >= text.len() {
-        return Err(Fault::Misspelt);
-    }
-    match lead_of(Want::Real, text[at]) {
-        Lead::Digit => eight(text, at),
-        Lead::Plus | Lead::Minus | Lead::Wrong => Err(Fault::Misspelt),
+    let first = bytes.first().ok_or(Fault::Misspelt)?;
+    match lead_of(Want::Real, *first)? {
+        Lead::Digit => eight(bytes),
+        Lead::Signed(_) => Err(Fault::Misspelt),
     }
 }
 
-// What is wanted, at the place behind its blank.
-fn item_after<'b>(want: Want, text: &'b [u8], at: usize) -> Result<(Item<'b>, usize), Fault>
-    requires { at ≤ length text.now }
-    ensures { Finds text.now (bare want (drop at text.now)) result }
+// What is wanted, behind its blank.
+fn item_after<'b>(want: Want, bytes: &'b [u8]) -> Result<(Item<'b>, usize), Fault>
+    ensures { Finds bytes.now (bare want bytes.now) result }
 {
     match want {
-        Want::Number(kind) => number_after(text, at, kind),
-        Want::Real => real_after(text, at),
-        Want::Text(len) => text_at(text, at, len),
+        Want::Number(kind) => number_after(kind, bytes),
+        Want::Real => real_after(bytes),
+        Want::Text(len) => text_of(len, bytes),
     }
 }
 
@@ -163,16 +167,14 @@ fn is_blank(b: u8) -> bool
     b == b' '
 }
 
-// What is wanted, at the place of its blank. That the text ends comes before a missing blank.
-pub(crate) fn item_at<'b>(want: Want, text: &'b [u8], at: usize) -> Result<(Item<'b>, usize), Fault>
-    ensures { Finds text.now (blanked (bare want) (drop at text.now)) result }
+// What is wanted, with its blank. That the bytes end comes before a missing blank.
+pub(crate) fn item_of<'b>(want: Want, bytes: &'b [u8]) -> Result<(Item<'b>, usize), Fault>
+    ensures { Finds bytes.now (blanked (bare want) bytes.now) result }
 {
-    if at >= text.len() {
-        return Err(Fault::Cut);
-    }
-    let found = item_after(want, text, at + 1)?;
-    if is_blank(text[at]) {
-        Ok(found)
+    let (blank, behind) = bytes.split_first().ok_or(Fault::Cut)?;
+    let (item, taken) = item_after(want, behind)?;
+    if is_blank(*blank) {
+        Ok((item, 1 + taken))
     } else {
         Err(Fault::Misspelt)
     }

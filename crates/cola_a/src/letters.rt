@@ -10,7 +10,7 @@ ghost use Rattle.cola_a.specs.Wraps.{text_slim, text_parted, text_snug, text_reo
 
 use crate::canon::{item_size, put_item};
 use crate::envelope::{open_text, put_envelope};
-use crate::items::item_at;
+use crate::items::item_of;
 use spelling::terms::{Extent, FullSpelling, Spelling};
 use telegram::item::{Item, Want};
 use telegram::refusal::{Fault, Refusal};
@@ -42,13 +42,8 @@ impl Spelling for Letters {
         false
     }
 
-    fn find<'b>(
-        _first: bool,
-        want: Want,
-        text: &'b [u8],
-        at: usize,
-    ) -> Result<(Item<'b>, usize), Fault> {
-        item_at(want, text, at)
+    fn find<'b>(_first: bool, want: Want, bytes: &'b [u8]) -> Result<(Item<'b>, usize), Fault> {
+        item_of(want, bytes)
     }
 }
 

@@ -1,5 +1,5 @@
 // Reading: the size, the envelope, the head, and then the items.
-ghost use Rattle.std.specs.Prelude.{◌≡◌, ℕ, ◌+◌, ◌≤◌, length, take, drop};
+ghost use Rattle.std.specs.Prelude.{◌≡◌, ℕ, ◌+◌, ◌≤◌, length, drop, ◌==◌, position};
 ghost use Rattle.layout.specs.Layout.{layout};
 ghost use Rattle.spelling.specs.Walk.{left};
 ghost use Rattle.framing.specs.Read.{word, head, after_head, headed, reads, Names, Holds, Reads};
@@ -8,6 +8,7 @@ use framing::head::Head;
 use layout::cursor::Cursor;
 use layout::stage::Progress;
 use spelling::terms::{Extent, Spelling};
+use spelling::text::tail;
 use spelling::walk::check;
 use telegram::refusal::{Reason, Refusal};
 use telegram::row::Row;
@@ -15,32 +16,33 @@ use telegram::row::Row;
 // The longest input that is read.
 pub const LONGEST: usize = 65_536;
 
-// How many bytes stand before the next blank or the end.
-fn word_length(bytes: &[u8]) -> usize
-    ensures word { take result bytes.now ≡ word bytes.now }
-    ensures inside { result ≤ length bytes.now }
+// The place of the first blank.
+fn first_blank(bytes: &[u8]) -> Option<usize>
+    ensures { result ≡ position (λ b. b == 32) bytes.now }
 {
-    for (i, b) in bytes.iter().enumerate() {
-        if *b == b' ' {
-            return i;
-        }
+    bytes.iter().position(|b| *b == b' ')
+}
+
+// What stands before the next blank or the end.
+fn word(bytes: &[u8]) -> &[u8]
+    ensures { result.now ≡ word bytes.now }
+{
+    match first_blank(bytes) {
+        Some(end) => &bytes[..end],
+        None => bytes,
     }
-    bytes.len()
 }
 
 // The row that a body's head names, and how long the head is.
 fn row_of(body: &[u8]) -> Option<(Row, usize)>
     ensures { Names body.now result }
 {
-    if body.len() < 4 || body[3] != b' ' {
+    if body.get(3) != Some(&b' ') {
         return None;
     }
-    let name = &body[4..];
-    let n = word_length(name);
-    match Row::find(&body[0..3], &name[0..n]) {
-        Some(row) => Some((row, 4 + n)),
-        None => None,
-    }
+    let name = word(tail(body, 4));
+    let row = Row::find(&body[..3], name)?;
+    Some((row, 4 + name.len()))
 }
 
 // Where the head's span ends: where that is allowed, a blank behind a head that has no items belongs to it.
@@ -49,10 +51,8 @@ fn after_blank<S: Spelling>(text: &[u8], row: Row, at: usize) -> usize
     ensures same { drop result text.now ≡ after_head S.Spelling.spare (layout row) (drop at text.now) }
     ensures inside { result ≤ length text.now }
 {
-    if !S::spares_blank() || Progress::new(row).want().is_some() {
-        return at;
-    }
-    if at < text.len() && text[at] == b' ' {
+    let spared = S::spares_blank() && Progress::new(row).want().is_none();
+    if spared && text.get(at) == Some(&b' ') {
         at + 1
     } else {
         at
@@ -64,12 +64,7 @@ fn read_body<'b, S: Spelling>(text: &'b [u8], from: usize) -> Result<Head<'b>, R
     requires { from ≤ length text.now }
     ensures { Holds S.Spelling.finds text.now (headed S.Spelling.finds S.Spelling.spare text.now from (head (drop from text.now))) result }
 {
-    let Some((row, n)) = row_of(&text[from..]) else {
-        return Err(Refusal {
-            reason: Reason::Unknown,
-            place: from,
-        });
-    };
+    let (row, n) = row_of(tail(text, from)).ok_or(Reason::Unknown.at(from))?;
     let place = after_blank::<S>(text, row, from + n);
     let parts = check::<S>(text, row, place)?;
     let start = Cursor {
@@ -91,11 +86,8 @@ pub fn read<'b, S: Spelling>(bytes: &'b [u8]) -> Result<Head<'b>, Refusal>
     ensures { Reads (left S.Spelling.finds) bytes.now (reads S.Spelling.opens S.Spelling.spare S.Spelling.finds bytes.now) result }
 {
     if bytes.is_empty() || bytes.len() > LONGEST {
-        return Err(Refusal {
-            reason: Reason::Size,
-            place: 0,
-        });
+        return Err(Reason::Size.at(0));
     }
     let Extent { from, to } = S::open(bytes)?;
-    read_body::<S>(&bytes[0..to], from)
+    read_body::<S>(&bytes[..to], from)
 }
