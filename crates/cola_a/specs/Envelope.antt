@@ -1,5 +1,6 @@
 -- The envelope of a text: 02, the body, 03. Assumes nothing.
 use Rattle.std.specs.Prelude.{ℕ, ◌+◌, ◌-◌, Bool, cond, ◌||◌, List, [], ◌∷◌, length, Some, None, Option, ◌==◌, slice_index, slice_range}
+use Rattle.std.specs.List.{position_from}
 use Rattle.spelling.specs.Spell.{Opened, holds, wrong, Opens}
 use Rattle.spelling.specs.Write.{Wrap}
 
@@ -9,10 +10,7 @@ marked c = c == 2 || c == 3
 
 -- the place of the first of them in a list, whose first byte stands at i
 abbrev pub mark : ℕ → List ℕ → Option ℕ
-mark i [] = None
-mark i (c ∷ cs) =
-    let later : Option ℕ = mark (i + 1) cs in
-    cond (marked c) (Some i) later
+mark i cs = position_from marked i cs
 
 -- a body up to the last byte, if no mark stands in it
 abbrev pub unmarked : ℕ → Option ℕ → Opened

@@ -1,6 +1,6 @@
 // Items, with the blank before them.
-ghost use Rattle.std.specs.Prelude.{◌≡◌, ℕ, ◌*◌, ◌≤◌, cond, ◌==◌};
-ghost use Rattle.telegram.specs.Kind.{bytes, patterns};
+ghost use Rattle.std.specs.Prelude.{◌≡◌, ℕ, ◌*◌, ◌≤◌, cond};
+ghost use Rattle.telegram.specs.Kind.{bytes as width, patterns};
 ghost use Rattle.spelling.specs.Spell.{Finds, blanked};
 ghost use Rattle.cola_a.specs.Digits.{run};
 ghost use Rattle.cola_a.specs.Items.{upward, downward, hexadecimal, is_minus, pattern, decimal, number_after, real_after, bare, signs, Leads};
@@ -92,7 +92,7 @@ fn pattern(kind: Kind, sign: Sign, value: u64) -> u64
 
 // A number in hexadecimal, by the pattern of its full width.
 fn plain<'b>(kind: Kind, bytes: &'b [u8]) -> Result<(Item<'b>, usize), Fault>
-    ensures { Finds bytes.now (hexadecimal kind (run 16 (2 * bytes kind) 0 0 bytes.now)) result }
+    ensures { Finds bytes.now (hexadecimal kind (run 16 (2 * width kind) 0 0 bytes.now)) result }
 {
     let Digits { count, value } = digits_of(bytes, Base::Sixteen, 2 * kind.width()).ok_or(
         Fault::Misspelt,
@@ -161,19 +161,13 @@ fn item_after<'b>(want: Want, bytes: &'b [u8]) -> Result<(Item<'b>, usize), Faul
     }
 }
 
-fn is_blank(b: u8) -> bool
-    ensures { result ≡ (b == 32) }
-{
-    b == b' '
-}
-
 // What is wanted, with its blank. That the bytes end comes before a missing blank.
 pub(crate) fn item_of<'b>(want: Want, bytes: &'b [u8]) -> Result<(Item<'b>, usize), Fault>
     ensures { Finds bytes.now (blanked (bare want) bytes.now) result }
 {
     let (blank, behind) = bytes.split_first().ok_or(Fault::Cut)?;
     let (item, taken) = item_after(want, behind)?;
-    if is_blank(*blank) {
+    if *blank == b' ' {
         Ok((item, 1 + taken))
     } else {
         Err(Fault::Misspelt)
