@@ -1,9 +1,9 @@
 -- A byte that is changed is seen. Assumes nothing.
 use Rattle.std.proofs.Common.{◌≡◌, ℕ, zero, suc, ◌+◌, ◌-◌, ◌*◌, ◌<◌, ◌≤◌, min, eqb, ltb, List, [], ◌∷◌, length, get_or, take, drop, set, sym, refl, ap, ◌∙◌, subst, ⊎_elim, arith}
-use lib.Bits.{bit_xor, xor_self, xor_assoc, xor_comm, xor_zero_l}
+use lib.Bits.{bit_xor, xor_self, xor_assoc, xor_comm, xor_zero_l, xor_zero_r}
 use lib.Seq.{take-set-lt}
 use Rattle.std.specs.Int.Digits.{number_from_digits_after, AllBelowBase}
-use Rattle.std.specs.List.{AllByRecursion}
+use Rattle.std.specs.List.{AllByRecursion, fold}
 use Rattle.std.proofs.ByRecursion.{All-take, All-drop, All-set}
 use Rattle.std.proofs.lemmas.List.{length-set, length-take, length-drop, get_or-set_same, get_or-set_other, get_or-take, get_or-drop, take-set-le, drop-set-add}
 use Rattle.std.proofs.lemmas.Bool.{cases_lt, ltb-false, eqb-true, cond_both}
@@ -40,10 +40,21 @@ cancel_left a b c e = sym (undone a b) ∙ ap (bit_xor a) e ∙ undone a c
 cancel_right : (a b c : ℕ) → bit_xor b a ≡ bit_xor c a → b ≡ c
 cancel_right a b c e = cancel_left a b c (xor_comm a b ∙ e ∙ xor_comm c a)
 
+folded : (a : ℕ) (xs : List ℕ) → fold bit_xor a xs ≡ bit_xor a (checksum xs)
+folded a [] = sym (xor_zero_r a)
+folded a (x ∷ xs) =
+    folded (bit_xor a x) xs ∙ xor_assoc a x (checksum xs)
+    ∙ ap (bit_xor a) (sym (folded (bit_xor 0 x) xs ∙ ap (λ y. bit_xor y (checksum xs)) (xor_zero_l x)))
+
+-- the first byte's part in a checksum
+parted : (x : ℕ) (xs : List ℕ) → checksum (x ∷ xs) ≡ bit_xor x (checksum xs)
+parted x xs = folded (bit_xor 0 x) xs ∙ ap (λ y. bit_xor y (checksum xs)) (xor_zero_l x)
+
 summed : (xs : List ℕ) (i v : ℕ) → i < length xs → checksum (set xs i v) ≡ checksum xs → v ≡ get_or xs i 0
 summed [] i v h e = absurd (omega arith)
-summed (x ∷ xs) zero v h e = cancel_right (checksum xs) v x e
-summed (x ∷ xs) (suc i) v h e = summed xs i v (omega arith) (cancel_left x (checksum (set xs i v)) (checksum xs) e)
+summed (x ∷ xs) zero v h e = cancel_right (checksum xs) v x (sym (parted v xs) ∙ e ∙ parted x xs)
+summed (x ∷ xs) (suc i) v h e =
+    summed xs i v (omega arith) (cancel_left x (checksum (set xs i v)) (checksum xs) (sym (parted x (set xs i v)) ∙ e ∙ parted x xs))
 
 -- an envelope with nothing wrong
 record Whole (bs : List ℕ) : Type 0 where

@@ -1,5 +1,6 @@
 -- The envelope in binary: a header, the body's length, the body, and its checksum. Assumes nothing.
-use Rattle.std.specs.Prelude.{ℕ, suc, ◌-◌, cond, List, [], ◌∷◌, ◌++◌, length, take, drop, ◌==◌, bit_xor, nat_lt, slice_index}
+use Rattle.std.specs.Prelude.{ℕ, ◌-◌, cond, List, [], ◌∷◌, ◌++◌, length, take, drop, ◌==◌, bit_xor, nat_lt, slice_index}
+use Rattle.std.specs.List.{fold, prefix_len, zip}
 use Rattle.std.specs.Int.Digits.{number_from_digits}
 use Rattle.spelling.specs.Spell.{holds, wrong, Opens}
 use Rattle.spelling.specs.Canon.{fixed}
@@ -11,9 +12,7 @@ header = 2 ∷ 2 ∷ 2 ∷ 2 ∷ []
 
 -- how many bytes two lists have in common before the first that differs
 abbrev pub alike : List ℕ → List ℕ → ℕ
-alike [] ys = 0
-alike (x ∷ xs) [] = 0
-alike (x ∷ xs) (y ∷ ys) = cond (x == y) (suc (alike xs ys)) 0
+alike xs ys = prefix_len (λ p. p.0 == p.1) (zip xs ys)
 
 -- the length that is stated behind the header, in four bytes, the highest first
 abbrev pub stated : List ℕ → ℕ
@@ -25,8 +24,7 @@ body bs = take (length bs - 9) (drop 8 bs)
 
 -- the exclusive or of all bytes
 abbrev pub checksum : List ℕ → ℕ
-checksum [] = 0
-checksum (b ∷ bs) = bit_xor b (checksum bs)
+checksum bs = fold bit_xor 0 bs
 
 -- too few bytes, a byte that is not the header's, another length, another checksum; else the body
 abbrev pub open_binary : Opens

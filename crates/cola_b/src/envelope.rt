@@ -19,22 +19,14 @@ pub const FRONT: usize = 8;
 fn alike(a: &[u8], b: &[u8]) -> usize
     ensures { result ≡ alike a.now b.now }
 {
-    let mut n = 0;
-    while n < a.len() && n < b.len() && a[n] == b[n] {
-        n += 1;
-    }
-    n
+    a.iter().zip(b).take_while(|(x, y)| x == y).count()
 }
 
 // The exclusive or of all bytes.
 pub fn checksum(body: &[u8]) -> u8
     ensures { result ≡ checksum body.now }
 {
-    let mut sum = 0;
-    for b in body {
-        sum ^= *b;
-    }
-    sum
+    body.iter().fold(0, |sum, b| sum ^ *b)
 }
 
 // The body that an envelope holds, or what is wrong with the envelope.
@@ -43,31 +35,19 @@ pub fn open(input: &[u8]) -> Result<Extent, Refusal>
 {
     let len = input.len();
     if len < FRONT + 1 {
-        return Err(Refusal {
-            reason: Reason::Envelope,
-            place: len,
-        });
+        return Err(Reason::Envelope.at(len));
     }
     let place = alike(&HEADER, input);
     if place < HEADER.len() {
-        return Err(Refusal {
-            reason: Reason::Envelope,
-            place,
-        });
+        return Err(Reason::Envelope.at(place));
     }
     let end = len - 1;
     match four(&input[HEADER.len()..]) {
         Some(stated) if stated as usize == end - FRONT => {}
-        _ => return Err(Refusal {
-            reason: Reason::Envelope,
-            place: HEADER.len(),
-        }),
+        _ => return Err(Reason::Envelope.at(HEADER.len())),
     }
     if checksum(&input[FRONT..end]) != input[end] {
-        return Err(Refusal {
-            reason: Reason::Checksum,
-            place: end,
-        });
+        return Err(Reason::Checksum.at(end));
     }
     Ok(Extent {
         from: FRONT,

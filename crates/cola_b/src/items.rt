@@ -1,6 +1,6 @@
 // Items. Numbers stand highest byte first, in the width of their kind.
-ghost use Rattle.std.specs.Prelude.{◌≡◌, ℕ, ◌+◌, ◌≤◌, ◌∷◌, length, drop, nat_lt};
-ghost use Rattle.telegram.specs.Kind.{bytes, patterns};
+ghost use Rattle.std.specs.Prelude.{◌≡◌, ℕ, ◌+◌, ◌≤◌, ◌∷◌, length, nat_lt};
+ghost use Rattle.telegram.specs.Kind.{bytes as width, patterns};
 ghost use Rattle.spelling.specs.Spell.{Finds, blanked};
 ghost use Rattle.telegram.specs.Value.{value_of};
 ghost use Rattle.spelling.specs.Canon.{fixed};
@@ -9,54 +9,28 @@ ghost use Rattle.cola_b.specs.Canon.{octets, canon_binary};
 ghost use Rattle.cola_b.specs.Items.{front, number_in, real_in, bare};
 
 use spelling::put::{put_blank, put_bytes};
-use spelling::text::text_at;
+use spelling::text::text_of;
 use telegram::item::{Item, Want};
 use telegram::kind::Kind;
 use telegram::refusal::Fault;
 
-// The number that the first byte spells, if there is one.
-fn one(text: &[u8]) -> Option<u32>
-    ensures { result ≡ front 1 text.now }
-{
-    match text {
-        [a, ..] => Some(u32::from(*a)),
-        [] => None,
-    }
-}
-
-// The number that the first two bytes spell, if there are as many.
-fn two(text: &[u8]) -> Option<u32>
-    ensures { result ≡ front 2 text.now }
-{
-    match text {
-        [a, b, ..] => Some(u32::from(*a) * 0x100 + u32::from(*b)),
-        _ => None,
-    }
-}
-
 // The number that the first four bytes spell, if there are as many.
-pub(crate) fn four(text: &[u8]) -> Option<u32>
-    ensures { result ≡ front 4 text.now }
+pub(crate) fn four(bytes: &[u8]) -> Option<u32>
+    ensures { result ≡ front 4 bytes.now }
 {
-    match text {
-        [a, b, c, d, ..] => Some(
-            u32::from(*a) * 0x100_0000
-                + u32::from(*b) * 0x1_0000
-                + u32::from(*c) * 0x100
-                + u32::from(*d),
-        ),
-        _ => None,
-    }
+    bytes.first_chunk().map(|chunk| u32::from_be_bytes(*chunk))
 }
 
 // The pattern that stands first, in the width of a kind.
-fn pattern(kind: Kind, text: &[u8]) -> Option<u32>
-    ensures { result ≡ front (bytes kind) text.now }
+fn pattern(kind: Kind, bytes: &[u8]) -> Option<u32>
+    ensures { result ≡ front (width kind) bytes.now }
 {
     match kind {
-        Kind::Bool | Kind::Uint8 | Kind::Int8 => one(text),
-        Kind::Uint16 => two(text),
-        Kind::Uint32 | Kind::Int32 => four(text),
+        Kind::Bool | Kind::Uint8 | Kind::Int8 => bytes.first().map(|b| u32::from(*b)),
+        Kind::Uint16 => bytes
+            .first_chunk()
+            .map(|chunk| u32::from(u16::from_be_bytes(*chunk))),
+        Kind::Uint32 | Kind::Int32 => four(bytes),
     }
 }
 
@@ -67,60 +41,46 @@ fn is_pattern(kind: Kind, value: u32) -> bool
     u64::from(value) < kind.span()
 }
 
-// A number of a kind at a place, and the place behind it.
-fn number_at<'b>(kind: Kind, text: &'b [u8], at: usize) -> Result<(Item<'b>, usize), Fault>
-    requires { at ≤ length text.now }
-    ensures { Finds text.now (number_in kind (drop at text.now)) result }
+// A number of a kind, and how many bytes it takes.
+fn number_of<'b>(kind: Kind, bytes: &'b [u8]) -> Result<(Item<'b>, usize), Fault>
+    ensures { Finds bytes.now (number_in kind bytes.now) result }
 {
-    let Some(value) = pattern(kind, &text[at..]) else {
-        return Err(Fault::Cut);
-    };
+    let value = pattern(kind, bytes).ok_or(Fault::Cut)?;
     if !is_pattern(kind, value) {
         return Err(Fault::Misspelt);
     }
-    Ok((Item::Number(kind, value), at + kind.width()))
+    Ok((Item::Number(kind, value), kind.width()))
 }
 
-// A Real at a place, which may be any pattern, and the place behind it.
-fn real_at<'b>(text: &'b [u8], at: usize) -> Result<(Item<'b>, usize), Fault>
-    requires { at ≤ length text.now }
-    ensures { Finds text.now (real_in (drop at text.now)) result }
+// A Real, which may be any pattern, and how many bytes it takes.
+fn real_of<'b>(bytes: &'b [u8]) -> Result<(Item<'b>, usize), Fault>
+    ensures { Finds bytes.now (real_in bytes.now) result }
 {
-    let Some(value) = four(&text[at..]) else {
-        return Err(Fault::Cut);
-    };
-    Ok((Item::Real(value), at + 4))
+    let value = four(bytes).ok_or(Fault::Cut)?;
+    Ok((Item::Real(value), 4))
 }
 
-// The item at a place, with no blank before it, and the place behind it.
-pub(crate) fn item_at<'b>(want: Want, text: &'b [u8], at: usize) -> Result<(Item<'b>, usize), Fault>
-    requires { at ≤ length text.now }
-    ensures { Finds text.now (bare want (drop at text.now)) result }
+// An item with no blank before it, and how many bytes it takes.
+pub(crate) fn item_of<'b>(want: Want, bytes: &'b [u8]) -> Result<(Item<'b>, usize), Fault>
+    ensures { Finds bytes.now (bare want bytes.now) result }
 {
     match want {
-        Want::Number(kind) => number_at(kind, text, at),
-        Want::Real => real_at(text, at),
-        Want::Text(len) => text_at(text, at, len),
+        Want::Number(kind) => number_of(kind, bytes),
+        Want::Real => real_of(bytes),
+        Want::Text(len) => text_of(len, bytes),
     }
 }
 
-// The item behind the blank at a place.
-pub(crate) fn blanked_at<'b>(
-    want: Want,
-    text: &'b [u8],
-    at: usize,
-) -> Result<(Item<'b>, usize), Fault>
-    requires { at ≤ length text.now }
-    ensures { Finds text.now (blanked (bare want) (drop at text.now)) result }
+// An item behind a blank, and how many bytes it takes with that.
+pub(crate) fn blanked_of<'b>(want: Want, bytes: &'b [u8]) -> Result<(Item<'b>, usize), Fault>
+    ensures { Finds bytes.now (blanked (bare want) bytes.now) result }
 {
-    if at >= text.len() {
-        return Err(Fault::Cut);
-    }
-    let found = item_at(want, text, at + 1)?;
-    if text[at] != b' ' {
+    let (blank, behind) = bytes.split_first().ok_or(Fault::Cut)?;
+    let (item, taken) = item_of(want, behind)?;
+    if *blank != b' ' {
         return Err(Fault::Misspelt);
     }
-    Ok(found)
+    Ok((item, 1 + taken))
 }
 
 // The four bytes of a number, the highest first.
@@ -137,8 +97,8 @@ pub(crate) fn four_bytes(v: u32) -> [u8; 4]
 
 // Writes a number in the width of its kind, and answers the place behind it.
 fn put_number(kind: Kind, v: u32, out: &mut [u8], at: usize) -> usize
-    requires { at + bytes kind ≤ length out.old }
-    ensures { Put out.old at (fixed 256 (bytes kind) v) out.new result }
+    requires { at + width kind ≤ length out.old }
+    ensures { Put out.old at (fixed 256 (width kind) v) out.new result }
 {
     match kind {
         Kind::Bool | Kind::Uint8 | Kind::Int8 => put_bytes(out, at, &[(v % 0x100) as u8]),

@@ -8,7 +8,7 @@ ghost use Rattle.cola_b.specs.Backs.{binary_written};
 ghost use Rattle.cola_b.specs.Wraps.{binary_slim, binary_parted, binary_snug, binary_reopens};
 
 use crate::envelope::{FRONT, put_envelope};
-use crate::items::{blanked_at, item_at, item_size, put_bare, put_blanked};
+use crate::items::{blanked_of, item_of, item_size, put_bare, put_blanked};
 use spelling::terms::{Extent, FullSpelling, Spelling};
 use telegram::item::{Item, Want};
 use telegram::refusal::{Fault, Refusal};
@@ -39,16 +39,11 @@ impl Spelling for Octets {
         true
     }
 
-    fn find<'b>(
-        first: bool,
-        want: Want,
-        text: &'b [u8],
-        at: usize,
-    ) -> Result<(Item<'b>, usize), Fault> {
+    fn find<'b>(first: bool, want: Want, bytes: &'b [u8]) -> Result<(Item<'b>, usize), Fault> {
         if first {
-            blanked_at(want, text, at)
+            blanked_of(want, bytes)
         } else {
-            item_at(want, text, at)
+            item_of(want, bytes)
         }
     }
 }

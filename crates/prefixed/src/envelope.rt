@@ -16,18 +16,11 @@ pub fn open(input: &[u8]) -> Result<Extent, Refusal>
     ensures { Opening (open_prefixed input.now) result }
 {
     let len = input.len();
-    if len < FRONT {
-        return Err(Refusal {
-            reason: Reason::Envelope,
-            place: len,
-        });
-    }
-    let stated = usize::from(input[0]) * 0x100 + usize::from(input[1]);
-    if stated != len - FRONT {
-        return Err(Refusal {
-            reason: Reason::Envelope,
-            place: 0,
-        });
+    let Some(stated) = input.first_chunk() else {
+        return Err(Reason::Envelope.at(len));
+    };
+    if usize::from(u16::from_be_bytes(*stated)) != len - FRONT {
+        return Err(Reason::Envelope.at(0));
     }
     Ok(Extent {
         from: FRONT,

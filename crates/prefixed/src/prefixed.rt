@@ -41,13 +41,8 @@ impl Spelling for Prefixed {
         false
     }
 
-    fn find<'b>(
-        first: bool,
-        want: Want,
-        text: &'b [u8],
-        at: usize,
-    ) -> Result<(Item<'b>, usize), Fault> {
-        Octets::find(first, want, text, at)
+    fn find<'b>(first: bool, want: Want, bytes: &'b [u8]) -> Result<(Item<'b>, usize), Fault> {
+        Octets::find(first, want, bytes)
     }
 }
 

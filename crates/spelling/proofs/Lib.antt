@@ -1,4 +1,3 @@
-pub mod Blanks
 pub mod Fairs
 pub mod Walks
 pub mod Turns
