@@ -1,13 +1,10 @@
 // What reading says of bytes, as lines of text.
 use framing::accepted::accept;
 use framing::framing::Framing;
-use layout::source::Source;
+use layout::source::{Items, Source};
 use page::item::{item_name, put_value};
 use std::alloc::{AllocError, Global};
 use telegram::item::{Item, Placed};
-
-// More pulls than any telegram has items.
-const MOST: usize = 20_000;
 
 // An item's kind, place, end and canonical letters.
 fn put_item(heap: Global, out: &mut Vec<u8>, item: Placed<Item<'_>>) -> Result<(), AllocError> {
@@ -28,18 +25,13 @@ fn put_telegram<S: Source>(heap: Global, out: &mut Vec<u8>, source: &S) -> Resul
     out.push(b' ')?;
     out.extend_from_slice(row.name())?;
     out.push(b'\n')?;
-    let mut at = source.start();
-    for _ in 0..MOST {
-        let Some((item, next)) = source.next(at) else {
-            break;
-        };
+    for item in Items::new(source) {
         put_item(heap, out, item)?;
-        at = next;
     }
     Ok(())
 }
 
-// The telegram, or the number and place of the refusal.
+// The telegram, or the refusal.
 pub fn put_answer<F: Framing>(
     heap: Global,
     out: &mut Vec<u8>,
@@ -48,11 +40,6 @@ pub fn put_answer<F: Framing>(
 ) -> Result<(), AllocError> {
     match accept(framing, bytes) {
         Ok(telegram) => put_telegram(heap, out, &telegram),
-        Err(refusal) => {
-            let number = refusal.reason.number();
-            let place = refusal.place;
-            let line = format!(in heap; "refused {number} {place}\n")?;
-            out.extend_from_slice(line.as_bytes())
-        }
+        Err(refusal) => out.extend_from_slice(format!(in heap; "{refusal}\n")?.as_bytes()),
     }
 }

@@ -2,12 +2,11 @@
 #![tactic(auto)]
 
 mod answer;
-mod decode;
 
 use answer::put_answer;
 use cola_a::read::COLA_A;
 use cola_b::read::COLA_B;
-use decode::decode;
+use notation::decode;
 use std::alloc::{AllocError, Global};
 use std::io::{Read, Write};
 
