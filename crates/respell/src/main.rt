@@ -4,38 +4,33 @@
 use framed::read::LONGEST;
 use framing::respell::respell;
 use known::{Known, lettered, told};
-use std::env::FillError;
+use std::env;
 use std::io::{Read, Write};
 use std::process::ExitCode;
-use std::rt::Env;
 use telegram::refusal::Refusal;
 
 const USAGE: &str = "usage: respell A|B < TELEGRAM";
 
-// The framing that the only argument names.
-fn target(rt: &impl Env) -> Option<Known> {
-    let mut word = [0; 2];
-    let Ok(n) = rt.arg(1, &mut word) else {
-        return None;
-    };
-    match rt.arg(2, &mut [0; 1]) {
-        Err(FillError::NotPresent) => lettered(&word[0..n]),
+// One byte more than is allowed, so that an input that is too long shows as such.
+const INPUT: u64 = LONGEST as u64 + 1;
+
+// The framing that the only argument names, if there is just one and it names one.
+fn target(rt: &HostRuntime) -> Option<Known> {
+    let mut words = env::args(rt).ok()?.skip(1);
+    match (words.next(), words.next()) {
+        (Some(word), None) => lettered(word.as_bytes()),
         _ => None,
     }
 }
 
-// One byte more than is allowed is read, so that an input that is too long shows as such.
+// Reads a telegram, and writes it respelt.
 fn run(rt: &HostRuntime, to: &Known) -> anyhow::Result<Result<(), Refusal>> {
     let heap = rt.alloc();
     let mut bytes = Vec::new(heap);
-    rt.stdin().take(LONGEST as u64 + 1).read_to_end(&mut bytes)?;
+    rt.stdin().take(INPUT).read_to_end(&mut bytes)?;
+    let telegram = bytes.as_slice();
     let mut out = vec![in heap; 0; LONGEST]?;
-    match respell(
-        &told(bytes.as_slice()),
-        to,
-        bytes.as_slice(),
-        out.as_mut_slice(),
-    ) {
+    match respell(&told(telegram), to, telegram, out.as_mut_slice()) {
         Ok(n) => {
             out.truncate(n);
             rt.stdout().write_all(out.as_slice())?;
@@ -53,9 +48,7 @@ fn main(rt: HostRuntime) -> anyhow::Result<ExitCode> {
     match run(&rt, &to)? {
         Ok(()) => Ok(ExitCode::SUCCESS),
         Err(refusal) => {
-            let number = refusal.reason.number();
-            let place = refusal.place;
-            eprintln!(rt; "refused {number} {place}")?;
+            eprintln!(rt; "{refusal}")?;
             Ok(ExitCode::FAILURE)
         }
     }

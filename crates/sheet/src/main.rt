@@ -3,20 +3,23 @@
 
 use framed::read::LONGEST;
 use page::sheet::sheet;
-use std::env::FillError;
+use std::env;
 use std::io::{Read, Write};
 use std::process::ExitCode;
-use std::rt::Env;
 
-fn has_arguments(rt: &impl Env) -> bool {
-    !matches!(rt.arg(1, &mut [0; 1]), Err(FillError::NotPresent))
+// One byte more than is allowed, so that an input that is too long shows as such.
+const INPUT: u64 = LONGEST as u64 + 1;
+
+// Whether any word stands behind the program's name.
+fn has_arguments(rt: &HostRuntime) -> bool {
+    !env::args(rt).is_ok_and(|words| words.len() <= 1)
 }
 
-// One byte more than is allowed is read, so that an input that is too long shows as such.
+// Reads a telegram, and writes its sheet.
 fn run(rt: &HostRuntime) -> anyhow::Result<()> {
     let heap = rt.alloc();
     let mut bytes = Vec::new(heap);
-    rt.stdin().take(LONGEST as u64 + 1).read_to_end(&mut bytes)?;
+    rt.stdin().take(INPUT).read_to_end(&mut bytes)?;
     let text = sheet(heap, bytes.as_slice())?;
     rt.stdout().write_all(text.as_slice())?;
     Ok(())
