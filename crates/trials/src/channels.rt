@@ -1,5 +1,5 @@
 // Trials of channel views.
-use crate::build::*;
+use crate::build::Build;
 use cola_a::read::COLA_A;
 use cola_b::read::COLA_B;
 use framing::accepted::accept;
@@ -15,9 +15,10 @@ const BODY: &[u8] =
     b"sSN LMDscandata \0\0\0\x01\0\x9f\x14\xce\0\0\0\x02\0\x03\0\0\0\x0a\0\0\0\x0b\0\0\x07\0\0\0\0\0\x09\xc4\0\0\x02\x1c\0\x01\x03\xad\xff\xff\0\x02DIST1\x3f\x80\0\0\0\0\0\0\xff\xf9\x22\x30\x13\x88\0\x03\x08\xa1\x08\xa5\x08\xabDIST2\x40\0\0\0\x80\0\0\0\0\0\x27\x10\x07\xd0\0\0\0\x01RSSI1\x3f\x80\0\0\0\0\0\0\x80\0\0\0\0\x0a\0\x02\x0d\xff\0\0\0\0\0\0\0\0\0\0";
 
 // What a channel is to tell, each value with its angle: all but the place of its content is the same in either framing.
-#[derive(Clone, Copy)]
 struct Told {
     content: &'static [u8],
+    place_in_text: usize,
+    place_in_binary: usize,
     scale: u32,
     offset: u32,
     start: i32,
@@ -28,6 +29,8 @@ struct Told {
 const TOLD: [Told; 3] = [
     Told {
         content: b"DIST1",
+        place_in_text: 71,
+        place_in_binary: 68,
         scale: 0x3F80_0000,
         offset: 0,
         start: -450_000,
@@ -36,6 +39,8 @@ const TOLD: [Told; 3] = [
     },
     Told {
         content: b"DIST2",
+        place_in_text: 123,
+        place_in_binary: 95,
         scale: 0x4000_0000,
         offset: 0x8000_0000,
         start: 10_000,
@@ -44,6 +49,8 @@ const TOLD: [Told; 3] = [
     },
     Told {
         content: b"RSSI1",
+        place_in_text: 160,
+        place_in_binary: 118,
         scale: 0x3F80_0000,
         offset: 0,
         start: -2_147_483_648,
@@ -57,7 +64,7 @@ fn tells<F: FullFraming>(
     framing: &F,
     bytes: &[u8],
     number: usize,
-    told: Told,
+    told: &Told,
     place: usize,
 ) -> bool {
     let Ok(telegram) = accept(framing, bytes) else {
@@ -94,20 +101,11 @@ fn tells<F: FullFraming>(
 
 #[test]
 fn channels_of_both(rt: HostRuntime) -> Result<(), Fail> {
-    let octets = in_binary(rt.alloc(), &[BODY])?;
-    let places_a: [usize; 3] = [71, 123, 160];
-    let places_b: [usize; 3] = [68, 95, 118];
-    for number in 0..3usize {
-        assert!(rt; tells(&COLA_A, TEXT, number, TOLD[number], places_a[number]));
-        assert!(rt;
-            tells(
-                &COLA_B,
-                octets.as_slice(),
-                number,
-                TOLD[number],
-                places_b[number],
-            )
-        );
+    let octets = COLA_B.telegram(rt.alloc(), &[BODY])?;
+    let binary = octets.as_slice();
+    for (number, told) in TOLD.iter().enumerate() {
+        assert!(rt; tells(&COLA_A, TEXT, number, told, told.place_in_text));
+        assert!(rt; tells(&COLA_B, binary, number, told, told.place_in_binary));
     }
     Ok(())
 }
@@ -122,7 +120,7 @@ fn lacks<F: FullFraming>(framing: &F, bytes: &[u8], number: usize) -> bool {
 
 #[test]
 fn no_such_channel(rt: HostRuntime) -> Result<(), Fail> {
-    let octets = in_binary(rt.alloc(), &[BODY])?;
+    let octets = COLA_B.telegram(rt.alloc(), &[BODY])?;
     for number in [3, 4, usize::MAX] {
         assert!(rt; lacks(&COLA_A, TEXT, number));
         assert!(rt; lacks(&COLA_B, octets.as_slice(), number));

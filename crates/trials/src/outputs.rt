@@ -1,11 +1,15 @@
 // What respelling leaves in an output.
 use crate::build::*;
+use crate::judge::Verdict;
+use crate::refused::Case;
 use cola_a::read::COLA_A;
 use cola_b::read::COLA_B;
 use framing::framing::{Framing, FullFraming};
 use framing::respell::respell;
+use notation::decode;
 use prefixed::prefixed::PREFIXED;
 use std::alloc::{AllocError, Global};
+use telegram::refusal::Reason;
 
 // What an output holds everywhere before it is written to.
 const OLD: u8 = 0xA5;
@@ -17,19 +21,6 @@ fn output(heap: Global, begin: &[u8], room: usize) -> Result<Vec<u8>, AllocError
     Ok(bytes)
 }
 
-// 0 and a length; or the number of a refusal and its place.
-fn answer<F: Framing, G: FullFraming>(
-    from: &F,
-    to: &G,
-    bytes: &[u8],
-    out: &mut [u8],
-) -> (u8, usize) {
-    match respell(from, to, bytes, out) {
-        Ok(length) => (0, length),
-        Err(refusal) => (refusal.reason.number(), refusal.place),
-    }
-}
-
 // Whether respelling into an output of so many bytes answers so, and leaves these bytes and behind them what stood there.
 fn leaves<F: Framing, G: FullFraming>(
     heap: Global,
@@ -37,12 +28,12 @@ fn leaves<F: Framing, G: FullFraming>(
     to: &G,
     bytes: &[u8],
     room: usize,
-    said: (u8, usize),
+    said: Verdict,
     written: &[u8],
 ) -> Result<bool, AllocError> {
     let wanted = output(heap, written, room)?;
     let mut out = output(heap, b"", room)?;
-    Ok(answer(from, to, bytes, out.as_mut_slice()) == said && out.as_slice() == wanted.as_slice())
+    Ok(respell(from, to, bytes, out.as_mut_slice()) == said && out == wanted)
 }
 
 // Whether bytes become others: in an output of exactly their length, in one that is longer by three, and not in one that is shorter by one.
@@ -54,11 +45,12 @@ pub fn becomes<F: Framing, G: FullFraming>(
     wanted: &[u8],
 ) -> Result<bool, AllocError> {
     let length = wanted.len();
-    let exact = leaves(heap, from, to, bytes, length, (0, length), wanted)?;
+    let exact = leaves(heap, from, to, bytes, length, Ok(length), wanted)?;
     let longer = length.saturating_add(3);
-    let ample = leaves(heap, from, to, bytes, longer, (0, length), wanted)?;
+    let ample = leaves(heap, from, to, bytes, longer, Ok(length), wanted)?;
     let shorter = length.saturating_sub(1);
-    let scarce = leaves(heap, from, to, bytes, shorter, (9, length), b"")?;
+    let asked = Err(Reason::Room.at(length));
+    let scarce = leaves(heap, from, to, bytes, shorter, asked, b"")?;
     Ok(exact && ample && scarce)
 }
 
@@ -70,46 +62,28 @@ pub fn turns<F: Framing, G: FullFraming>(
     input: &str,
     wanted: &str,
 ) -> Result<bool, AllocError> {
-    let bytes = decode(heap, input)?;
-    becomes(
-        heap,
-        from,
-        to,
-        bytes.as_slice(),
-        decode(heap, wanted)?.as_slice(),
-    )
+    let bytes = decode(heap, input.as_bytes())?;
+    let written = decode(heap, wanted.as_bytes())?;
+    becomes(heap, from, to, bytes.as_slice(), written.as_slice())
 }
 
-// Whether an input is refused by the number and at the place that stand behind it, and leaves an output as it was, however short it is.
-fn is_refused<F: Framing, G: FullFraming>(
-    heap: Global,
-    from: &F,
-    to: &G,
-    case: &str,
-) -> Result<bool, AllocError> {
-    let input = decode_part(heap, case, 0)?;
-    let bytes = input.as_slice();
-    let [number, place] = *decode_part(heap, case, 1)?.as_slice() else {
-        return Ok(false);
-    };
-    let said = (number, place as usize);
-    let ample = leaves(heap, from, to, bytes, 80, said, b"")?;
-    let none = leaves(heap, from, to, bytes, 0, said, b"")?;
-    Ok(ample && none)
-}
-
-// Whether the input of each line is refused so.
+// Whether the input of each case is refused as the case says, and leaves an output as it was, however short it is.
 pub fn are_refused<F: Framing, G: FullFraming>(
     heap: Global,
     from: &F,
     to: &G,
-    cases: &str,
+    cases: &[Case],
 ) -> Result<bool, AllocError> {
-    let mut refused = true;
-    for case in cases.lines() {
-        refused = refused && is_refused(heap, from, to, case)?;
+    for (input, reason, place) in cases {
+        let input = decode(heap, input.as_bytes())?;
+        let said = Err(reason.at(*place));
+        for room in [80, 0] {
+            if !leaves(heap, from, to, input.as_slice(), room, said, b"")? {
+                return Ok(false);
+            }
+        }
     }
-    Ok(refused)
+    Ok(true)
 }
 
 // The canonical spellings of one telegram: in text, in binary, and in binary behind a length alone.
@@ -121,10 +95,10 @@ pub struct Spellings {
 }
 
 // One part of each of some texts, one behind the other.
-fn joined(heap: Global, texts: &[&str], part: u8) -> Result<Vec<u8>, AllocError> {
+fn joined(heap: Global, texts: &[&str], number: usize) -> Result<Vec<u8>, AllocError> {
     let mut bytes = Vec::new(heap);
     for text in texts {
-        bytes.extend_from_slice(decode_part(heap, text, part)?.as_slice())?;
+        bytes.extend_from_slice(part(heap, text, number)?.as_slice())?;
     }
     Ok(bytes)
 }
@@ -133,13 +107,10 @@ fn joined(heap: Global, texts: &[&str], part: u8) -> Result<Vec<u8>, AllocError>
 pub fn spell(heap: Global, pieces: &[&str]) -> Result<Spellings, AllocError> {
     let letters = joined(heap, pieces, 0)?;
     let octets = joined(heap, pieces, 1)?;
-    let text = in_text(heap, &[letters.as_slice()])?;
-    let binary = in_binary(heap, &[octets.as_slice()])?;
-    let prefixed = behind_length(heap, octets.as_slice())?;
     Ok(Spellings {
-        text,
-        binary,
-        prefixed,
+        text: COLA_A.telegram(heap, &[letters.as_slice()])?,
+        binary: COLA_B.telegram(heap, &[octets.as_slice()])?,
+        prefixed: PREFIXED.telegram(heap, &[octets.as_slice()])?,
     })
 }
 
@@ -176,7 +147,7 @@ pub fn settles<F: Framing, G: Framing>(
     case: &str,
 ) -> Result<bool, AllocError> {
     let telegram = spell(heap, &[case])?;
-    let first = telegram.come_of(heap, text, decode_part(heap, case, 2)?.as_slice())?;
-    let second = telegram.come_of(heap, binary, decode_part(heap, case, 3)?.as_slice())?;
+    let first = telegram.come_of(heap, text, part(heap, case, 2)?.as_slice())?;
+    let second = telegram.come_of(heap, binary, part(heap, case, 3)?.as_slice())?;
     Ok(first && second)
 }

@@ -8,6 +8,7 @@ use cola_a::read::{COLA_A, ColaA};
 use cola_b::read::{COLA_B, ColaB};
 use framing::choice::Choice;
 use prefixed::prefixed::PREFIXED;
+use std::alloc::{AllocError, Global};
 use std::test::Fail;
 
 // A choice of text or binary, either way.
@@ -24,22 +25,35 @@ fn rows(rt: HostRuntime) -> Result<(), Fail> {
     Ok(())
 }
 
+// Whether a scan agrees in its spellings with every choice of the optional parts behind its channels.
+fn agrees(heap: Global, front: [&str; 4]) -> Result<bool, AllocError> {
+    let [scan, head, encoders, channels] = front;
+    for position in POSITIONS {
+        for name in NAMES {
+            for comment in COMMENTS {
+                for time in TIMES {
+                    let pieces = [
+                        scan, head, encoders, channels, position, name, comment, time, END,
+                    ];
+                    if !spell(heap, &pieces)?.agree(heap)? {
+                        return Ok(false);
+                    }
+                }
+            }
+        }
+    }
+    Ok(true)
+}
+
 // Scans with 0 to 3 encoders, with channels of either depth, and with every choice of the optional parts, from every framing to every framing.
 #[test]
 fn scans(rt: HostRuntime) -> Result<(), Fail> {
-    for n in 0..1152usize {
-        let pieces = [
-            SCANS[n % 2],
-            FRONT,
-            ENCODERS[n / 2 % 4],
-            CHANNELS[n / 8 % 4],
-            POSITIONS[n / 32 % 2],
-            NAMES[n / 64 % 3],
-            COMMENTS[n / 192 % 3],
-            TIMES[n / 576 % 2],
-            END,
-        ];
-        assert!(rt; spell(rt.alloc(), &pieces)?.agree(rt.alloc())?);
+    for scan in SCANS {
+        for encoders in ENCODERS {
+            for channels in CHANNELS {
+                assert!(rt; agrees(rt.alloc(), [scan, FRONT, encoders, channels])?);
+            }
+        }
     }
     Ok(())
 }
@@ -65,8 +79,8 @@ fn full_scan(rt: HostRuntime) -> Result<(), Fail> {
 // A refusal of the input is passed on as it is, whatever the output.
 #[test]
 fn refusals(rt: HostRuntime) -> Result<(), Fail> {
-    assert!(rt; are_refused(rt.alloc(), &COLA_A, &COLA_B, IN_TEXT)?);
-    assert!(rt; are_refused(rt.alloc(), &COLA_B, &PREFIXED, IN_BINARY)?);
-    assert!(rt; are_refused(rt.alloc(), &PREFIXED, &COLA_A, IN_PREFIXED)?);
+    assert!(rt; are_refused(rt.alloc(), &COLA_A, &COLA_B, &IN_TEXT)?);
+    assert!(rt; are_refused(rt.alloc(), &COLA_B, &PREFIXED, &IN_BINARY)?);
+    assert!(rt; are_refused(rt.alloc(), &PREFIXED, &COLA_A, &IN_PREFIXED)?);
     Ok(())
 }

@@ -2,13 +2,15 @@
 use crate::build::*;
 use crate::full::*;
 use crate::judge::*;
-use cola_a::read::COLA_A;
-use cola_b::read::COLA_B;
+use cola_a::read::{COLA_A, ColaA};
+use cola_b::read::{COLA_B, ColaB};
 use framing::accepted::accept;
 use framing::framing::Framing;
 use layout::records::{Parts, Position, Time};
+use notation::decode;
 use std::alloc::{AllocError, Global};
 use std::test::Fail;
+use telegram::refusal::Reason;
 
 const POSITION: Position = Position {
     x: 0x3FC0_0000,
@@ -49,7 +51,7 @@ fn are_full(parts: Parts<'_>) -> bool {
 
 // Whether bytes are accepted, with the optional parts of the full scan.
 fn is_full<F: Framing>(heap: Global, framing: &F, input: &str) -> Result<bool, AllocError> {
-    let bytes = decode(heap, input)?;
+    let bytes = decode(heap, input.as_bytes())?;
     match accept(framing, bytes.as_slice()) {
         Ok(telegram) => Ok(are_full(telegram.parts())),
         Err(_) => Ok(false),
@@ -64,77 +66,126 @@ fn full_scan(rt: HostRuntime) -> Result<(), Fail> {
     Ok(())
 }
 
-// The front of a scan with no encoders, up to the number of channels; the front of a channel, up to its amount.
-const FRONT_A: &[u8] = b"sSN LMDscandata 0 1 9F14CE 0 0 2 3 A B 0 0 7 0 0 9C4 21C 0";
-
-const FRONT_B: &[u8] =
-    b"sSN LMDscandata \0\0\0\x01\0\x9f\x14\xce\0\0\0\x02\0\x03\0\0\0\x0a\0\0\0\x0b\0\0\x07\0\0\0\0\0\x09\xc4\0\0\x02\x1c\0\0";
-
-const CHANNEL_A: &[u8] = b" DIST1 3F800000 00000000 0 1";
-
-const CHANNEL_B: &[u8] = b"DIST1\x3f\x80\0\0\0\0\0\0\0\0\0\0\0\x01";
-
-// Channels of 16 bits, the amount of each, channels of 8 bits, the amount of each; then the verdict in text, and in binary.
-const SCANS: [[u16; 8]; 24] = [
-    [1, 8191, 1, 1, 0, 8228, 0, 8228],
-    [1, 8191, 1, 2, 7, 16506, 7, 16488],
-    [1, 8192, 1, 0, 0, 8228, 0, 8228],
-    [1, 8192, 1, 1, 7, 16508, 7, 16490],
-    [1, 0, 1, 8192, 0, 8228, 0, 8228],
-    [1, 0, 1, 8193, 7, 121, 7, 106],
-    [0, 0, 1, 8192, 0, 8222, 0, 8222],
-    [1, 8192, 0, 0, 0, 8222, 0, 8222],
-    [1, 8193, 0, 0, 7, 89, 7, 83],
-    [1, 4096, 1, 4096, 0, 8228, 0, 8228],
-    [1, 4096, 1, 4097, 7, 8316, 7, 8298],
-    [12, 0, 12, 0, 0, 168, 0, 168],
-    [13, 0, 0, 0, 7, 59, 7, 62],
-    [0, 0, 13, 0, 7, 61, 7, 64],
-    [12, 0, 13, 0, 7, 421, 7, 316],
-    [12, 682, 0, 0, 0, 8280, 0, 8280],
-    [12, 683, 0, 0, 7, 15467, 7, 15340],
-    [8, 512, 8, 512, 0, 8312, 0, 8312],
-    [8, 512, 8, 513, 7, 15945, 7, 12183],
-    [4, 2048, 12, 0, 0, 8312, 0, 8312],
-    [4, 2048, 12, 1, 7, 16603, 7, 16553],
-    [2, 4096, 0, 0, 0, 8228, 0, 8228],
-    [2, 4097, 0, 0, 7, 8316, 7, 8298],
-    [0, 0, 0, 0, 0, 24, 0, 24],
-];
-
-fn scan_a(heap: Global, scan: [u16; 8]) -> Result<(u8, usize), AllocError> {
-    let sixteen = channels(heap, false, CHANNEL_A, b" 0", scan[0], scan[1])?;
-    let eight = channels(heap, false, CHANNEL_A, b" 0", scan[2], scan[3])?;
-    let bytes = in_text(
-        heap,
-        &[FRONT_A, sixteen.as_slice(), eight.as_slice(), b" 0 0 0 0 0"],
-    )?;
-    Ok(judge_a(bytes.as_slice()))
+// A framing, and the pieces in it of a scan with no encoders.
+#[derive(Drop)]
+struct Pieces<F> {
+    framing: F,
+    // What stands before the number of channels.
+    front: &'static [u8],
+    // What stands before a channel's amount.
+    channel: &'static [u8],
+    // One value of 16 bits, and one of 8 bits.
+    sixteen: &'static [u8],
+    eight: &'static [u8],
+    // What stands behind the channels.
+    end: &'static [u8],
 }
 
-fn scan_b(heap: Global, scan: [u16; 8]) -> Result<(u8, usize), AllocError> {
-    let sixteen = channels(heap, true, CHANNEL_B, b"\0\0", scan[0], scan[1])?;
-    let eight = channels(heap, true, CHANNEL_B, b"\0", scan[2], scan[3])?;
-    let bytes = in_binary(
-        heap,
-        &[
-            FRONT_B,
-            sixteen.as_slice(),
-            eight.as_slice(),
-            b"\0\0\0\0\0\0\0\0\0\0",
-        ],
-    )?;
-    Ok(judge_b(bytes.as_slice()))
+const IN_TEXT: Pieces<ColaA> = Pieces {
+    framing: COLA_A,
+    front: b"sSN LMDscandata 0 1 9F14CE 0 0 2 3 A B 0 0 7 0 0 9C4 21C 0",
+    channel: b" DIST1 3F800000 00000000 0 1",
+    sixteen: b" 0",
+    eight: b" 0",
+    end: b" 0 0 0 0 0",
+};
+
+const IN_BINARY: Pieces<ColaB> = Pieces {
+    framing: COLA_B,
+    front: b"sSN LMDscandata \0\0\0\x01\0\x9f\x14\xce\0\0\0\x02\0\x03\0\0\0\x0a\0\0\0\x0b\0\0\x07\0\0\0\0\0\x09\xc4\0\0\x02\x1c\0\0",
+    channel: b"DIST1\x3f\x80\0\0\0\0\0\0\0\0\0\0\0\x01",
+    sixteen: b"\0\0",
+    eight: b"\0",
+    end: b"\0\0\0\0\0\0\0\0\0\0",
+};
+
+impl<F: Framing + Build> Pieces<F> {
+    // What reading says of a scan with channels of 16 bits and of 8 bits.
+    fn judge(
+        &self,
+        heap: Global,
+        sixteen: Channels,
+        eight: Channels,
+    ) -> Result<Verdict, AllocError> {
+        let framing = &self.framing;
+        let sixteen = sixteen.build(heap, framing, self.channel, self.sixteen)?;
+        let eight = eight.build(heap, framing, self.channel, self.eight)?;
+        let pieces = [self.front, sixteen.as_slice(), eight.as_slice(), self.end];
+        Ok(judge(framing, framing.telegram(heap, &pieces)?.as_slice()))
+    }
+}
+
+// A scan's channels of 16 bits and of 8 bits, and what reading says of it in text and in binary.
+#[derive(Clone, Copy)]
+struct Scan {
+    sixteen: Channels,
+    eight: Channels,
+    in_text: Verdict,
+    in_binary: Verdict,
+}
+
+// So many channels, of so many values each.
+fn of(count: u16, amount: u16) -> Channels {
+    Channels { count, amount }
+}
+
+// A scan that is within the limits, with so many items.
+fn fits(sixteen: Channels, eight: Channels, items: usize) -> Scan {
+    Scan {
+        sixteen,
+        eight,
+        in_text: Ok(items),
+        in_binary: Ok(items),
+    }
+}
+
+// A scan that passes a limit, with the places of the item that does.
+fn exceeds(sixteen: Channels, eight: Channels, in_text: usize, in_binary: usize) -> Scan {
+    Scan {
+        sixteen,
+        eight,
+        in_text: Err(Reason::Limit.at(in_text)),
+        in_binary: Err(Reason::Limit.at(in_binary)),
+    }
 }
 
 // Channels and amounts up to their limits and past them.
+fn scans_at_limits() -> [Scan; 24] {
+    [
+        fits(of(1, 8191), of(1, 1), 8228),
+        exceeds(of(1, 8191), of(1, 2), 16506, 16488),
+        fits(of(1, 8192), of(1, 0), 8228),
+        exceeds(of(1, 8192), of(1, 1), 16508, 16490),
+        fits(of(1, 0), of(1, 8192), 8228),
+        exceeds(of(1, 0), of(1, 8193), 121, 106),
+        fits(of(0, 0), of(1, 8192), 8222),
+        fits(of(1, 8192), of(0, 0), 8222),
+        exceeds(of(1, 8193), of(0, 0), 89, 83),
+        fits(of(1, 4096), of(1, 4096), 8228),
+        exceeds(of(1, 4096), of(1, 4097), 8316, 8298),
+        fits(of(12, 0), of(12, 0), 168),
+        exceeds(of(13, 0), of(0, 0), 59, 62),
+        exceeds(of(0, 0), of(13, 0), 61, 64),
+        exceeds(of(12, 0), of(13, 0), 421, 316),
+        fits(of(12, 682), of(0, 0), 8280),
+        exceeds(of(12, 683), of(0, 0), 15467, 15340),
+        fits(of(8, 512), of(8, 512), 8312),
+        exceeds(of(8, 512), of(8, 513), 15945, 12183),
+        fits(of(4, 2048), of(12, 0), 8312),
+        exceeds(of(4, 2048), of(12, 1), 16603, 16553),
+        fits(of(2, 4096), of(0, 0), 8228),
+        exceeds(of(2, 4097), of(0, 0), 8316, 8298),
+        fits(of(0, 0), of(0, 0), 24),
+    ]
+}
+
 #[test]
 fn scans(rt: HostRuntime) -> Result<(), Fail> {
-    for scan in SCANS {
-        let (number, place) = scan_a(rt.alloc(), scan)?;
-        assert!(rt; number as u16 == scan[4] && place == scan[5] as usize);
-        let (number, place) = scan_b(rt.alloc(), scan)?;
-        assert!(rt; number as u16 == scan[6] && place == scan[7] as usize);
+    for scan in scans_at_limits() {
+        let text = IN_TEXT.judge(rt.alloc(), scan.sixteen, scan.eight)?;
+        let binary = IN_BINARY.judge(rt.alloc(), scan.sixteen, scan.eight)?;
+        assert_eq!(rt; text, scan.in_text);
+        assert_eq!(rt; binary, scan.in_binary);
     }
     Ok(())
 }
@@ -143,28 +194,32 @@ fn scans(rt: HostRuntime) -> Result<(), Fail> {
 #[test]
 fn single_bytes(rt: HostRuntime) {
     for byte in 0..=255u8 {
-        assert_eq!(rt; (judge_a(&[byte]), judge_b(&[byte])), ((2, 0), (2, 1)));
+        assert_eq!(rt; judge(&COLA_A, &[byte]), Err(Reason::Envelope.at(0)));
+        assert_eq!(rt; judge(&COLA_B, &[byte]), Err(Reason::Envelope.at(1)));
     }
 }
 
-// A body of so many letters, in both framings.
-fn letters(heap: Global, times: u16) -> Result<((u8, usize), (u8, usize)), AllocError> {
-    let body = repeated(heap, b"x", times)?;
-    let text = in_text(heap, &[body.as_slice()])?;
-    let octets = in_binary(heap, &[body.as_slice()])?;
-    Ok((judge_a(text.as_slice()), judge_b(octets.as_slice())))
+// What reading in a framing says of a body of so many letters.
+fn letters<F: Framing + Build>(
+    heap: Global,
+    framing: &F,
+    times: usize,
+) -> Result<Verdict, AllocError> {
+    let body = b"x".repeat(heap, times)?;
+    let bytes = framing.telegram(heap, &[body.as_slice()])?;
+    Ok(judge(framing, bytes.as_slice()))
 }
 
 // A scan in text with 5,453 values, all but one in ten digits, which is as long as an input may be; or longer by so many zeros.
-fn longest(heap: Global, more: u16) -> Result<(u8, usize), AllocError> {
-    let values = repeated(heap, b" +0000000000", 5452)?;
-    let zeros = repeated(heap, b"0", more)?;
-    let text = in_text(
+fn longest(heap: Global, more: usize) -> Result<Verdict, AllocError> {
+    let values = b" +0000000000".repeat(heap, 5452)?;
+    let zeros = b"0".repeat(heap, more)?;
+    let text = COLA_A.telegram(
         heap,
         &[
-            FRONT_A,
+            IN_TEXT.front,
             b" 1",
-            CHANNEL_A,
+            IN_TEXT.channel,
             b" 154D",
             values.as_slice(),
             b" +000",
@@ -172,17 +227,25 @@ fn longest(heap: Global, more: u16) -> Result<(u8, usize), AllocError> {
             b" 0 0 0 0 0 0",
         ],
     )?;
-    Ok(judge_a(text.as_slice()))
+    Ok(judge(&COLA_A, text.as_slice()))
 }
 
 // Inputs of 65,536 bytes and of one more.
 #[test]
 fn long_inputs(rt: HostRuntime) -> Result<(), Fail> {
-    assert_eq!(rt; letters(rt.alloc(), 65_527)?, ((4, 1), (4, 8)));
-    assert_eq!(rt; letters(rt.alloc(), 65_528)?, ((4, 1), (1, 0)));
-    assert_eq!(rt; letters(rt.alloc(), 65_534)?, ((4, 1), (1, 0)));
-    assert_eq!(rt; letters(rt.alloc(), 65_535)?, ((1, 0), (1, 0)));
-    assert_eq!(rt; longest(rt.alloc(), 0)?, (0, 5483));
-    assert_eq!(rt; longest(rt.alloc(), 1)?, (1, 0));
+    let size = Err(Reason::Size.at(0));
+    let text = Err(Reason::Unknown.at(1));
+    let binary = Err(Reason::Unknown.at(8));
+    for (times, in_text, in_binary) in [
+        (65_527, text, binary),
+        (65_528, text, size),
+        (65_534, text, size),
+        (65_535, size, size),
+    ] {
+        assert_eq!(rt; letters(rt.alloc(), &COLA_A, times)?, in_text);
+        assert_eq!(rt; letters(rt.alloc(), &COLA_B, times)?, in_binary);
+    }
+    assert_eq!(rt; longest(rt.alloc(), 0)?, Ok(5483));
+    assert_eq!(rt; longest(rt.alloc(), 1)?, size);
     Ok(())
 }
