@@ -4,21 +4,23 @@
 mod answer;
 
 use answer::put_answer;
-use cola_a::read::COLA_A;
-use cola_b::read::COLA_B;
+use known::lettered;
 use notation::decode;
 use std::alloc::{AllocError, Global};
 use std::io::{Read, Write};
 
+// The line of a case, and what reading says of its bytes.
 fn put_case(heap: Global, out: &mut Vec<u8>, case: &str) -> Result<(), AllocError> {
     out.extend_from_slice(b"> ")?;
     out.extend_from_slice(case.as_bytes())?;
     out.push(b'\n')?;
-    match case.as_bytes() {
-        [b'A', b' ', text @ ..] => put_answer(heap, out, &COLA_A, decode(heap, text)?.as_slice()),
-        [b'B', b' ', text @ ..] => put_answer(heap, out, &COLA_B, decode(heap, text)?.as_slice()),
-        _ => out.extend_from_slice(b"no case\n"),
+    if let Some((letter, text)) = case.split_once(' ')
+        && let Some(framing) = lettered(letter.as_bytes())
+    {
+        let bytes = decode(heap, text.as_bytes())?;
+        return put_answer(heap, out, &framing, bytes.as_slice());
     }
+    out.extend_from_slice(b"no case\n")
 }
 
 fn run(rt: &HostRuntime) -> anyhow::Result<()> {

@@ -28,7 +28,7 @@ impl Build for ColaA {
     }
 
     fn number(&self, heap: Global, n: u16) -> Result<Vec<u8>, AllocError> {
-        format!(in heap; " {n:X}")?.as_bytes().to_vec(heap)
+        Ok(format!(in heap; " {n:X}")?.into_bytes())
     }
 }
 

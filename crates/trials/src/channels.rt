@@ -74,20 +74,18 @@ fn tells<F: FullFraming>(
         return false;
     };
     let content = view.content();
-    if content.value != told.content
-        || content.place != place
-        || content.end != place.wrapping_add(5)
-    {
-        return false;
-    }
     let front = view.front;
-    if front.scale != told.scale || front.offset != told.offset {
-        return false;
-    }
-    if view.start() != told.start || front.step != told.step {
-        return false;
-    }
-    if front.amount as usize != told.values.len() || view.angle(told.values.len()).is_some() {
+    let amount = told.values.len();
+    let is_told = content.value == told.content
+        && content.place == place
+        && content.end == place.wrapping_add(5)
+        && front.scale == told.scale
+        && front.offset == told.offset
+        && view.start() == told.start
+        && front.step == told.step
+        && front.amount as usize == amount
+        && view.angle(amount).is_none();
+    if !is_told {
         return false;
     }
     for (i, (value, angle)) in told.values.iter().enumerate() {
