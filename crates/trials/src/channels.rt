@@ -83,7 +83,7 @@ fn tells<F: FullFraming>(
         && front.offset == told.offset
         && view.start() == told.start
         && front.step == told.step
-        && front.amount as usize == amount
+        && usize::from(front.amount) == amount
         && view.angle(amount).is_none();
     if !is_told {
         return false;
@@ -110,10 +110,7 @@ fn channels_of_both(rt: HostRuntime) -> Result<(), Fail> {
 
 // Whether bytes are accepted and have no channel with a number.
 fn lacks<F: FullFraming>(framing: &F, bytes: &[u8], number: usize) -> bool {
-    match accept(framing, bytes) {
-        Ok(telegram) => channel(&telegram, number).is_none(),
-        Err(_) => false,
-    }
+    accept(framing, bytes).is_ok_and(|telegram| channel(&telegram, number).is_none())
 }
 
 #[test]

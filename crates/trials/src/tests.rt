@@ -52,10 +52,8 @@ fn are_full(parts: Parts<'_>) -> bool {
 // Whether bytes are accepted, with the optional parts of the full scan.
 fn is_full<F: Framing>(heap: Global, framing: &F, input: &str) -> Result<bool, AllocError> {
     let bytes = decode(heap, input.as_bytes())?;
-    match accept(framing, bytes.as_slice()) {
-        Ok(telegram) => Ok(are_full(telegram.parts())),
-        Err(_) => Ok(false),
-    }
+    let telegram = accept(framing, bytes.as_slice());
+    Ok(telegram.is_ok_and(|telegram| are_full(telegram.parts())))
 }
 
 #[test]
