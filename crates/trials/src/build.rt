@@ -2,15 +2,8 @@
 use cola_a::read::ColaA;
 use cola_b::read::ColaB;
 use framed::framed::Framed;
-use notation::decode;
 use prefixed::prefixed::Prefixed;
 use std::alloc::{AllocError, Global};
-
-// The bytes of one part of a text, counted from 0. A `#` divides the parts.
-pub fn part(heap: Global, text: &str, number: usize) -> Result<Vec<u8>, AllocError> {
-    let part = text.split('#').nth(number).unwrap_or("");
-    decode(heap, part.as_bytes())
-}
 
 // How pieces of a telegram are put together in a framing.
 pub trait Build {

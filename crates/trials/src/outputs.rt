@@ -1,5 +1,5 @@
 // What respelling leaves in an output.
-use crate::build::*;
+use crate::build::Build;
 use crate::judge::Verdict;
 use crate::refused::Case;
 use cola_a::read::COLA_A;
@@ -94,6 +94,21 @@ pub struct Spellings {
     pub prefixed: Vec<u8>,
 }
 
+// The parts of a text: the canonical body of a telegram, or a piece of it, in text and in binary; then the telegram as two inputs.
+const LETTERS: usize = 0;
+
+const OCTETS: usize = 1;
+
+const INPUT_IN_TEXT: usize = 2;
+
+const INPUT_IN_BINARY: usize = 3;
+
+// The bytes of one part of a text. A `#` divides the parts.
+fn part(heap: Global, text: &str, number: usize) -> Result<Vec<u8>, AllocError> {
+    let part = text.split('#').nth(number).unwrap_or("");
+    decode(heap, part.as_bytes())
+}
+
 // One part of each of some texts, one behind the other.
 fn joined(heap: Global, texts: &[&str], number: usize) -> Result<Vec<u8>, AllocError> {
     let mut bytes = Vec::new(heap);
@@ -105,8 +120,8 @@ fn joined(heap: Global, texts: &[&str], number: usize) -> Result<Vec<u8>, AllocE
 
 // The spellings of a telegram whose body is these pieces one behind the other, each in text and, behind a `#`, in binary.
 pub fn spell(heap: Global, pieces: &[&str]) -> Result<Spellings, AllocError> {
-    let letters = joined(heap, pieces, 0)?;
-    let octets = joined(heap, pieces, 1)?;
+    let letters = joined(heap, pieces, LETTERS)?;
+    let octets = joined(heap, pieces, OCTETS)?;
     Ok(Spellings {
         text: COLA_A.telegram(heap, &[letters.as_slice()])?,
         binary: COLA_B.telegram(heap, &[octets.as_slice()])?,
@@ -147,7 +162,10 @@ pub fn settles<F: Framing, G: Framing>(
     case: &str,
 ) -> Result<bool, AllocError> {
     let telegram = spell(heap, &[case])?;
-    let first = telegram.come_of(heap, text, part(heap, case, 2)?.as_slice())?;
-    let second = telegram.come_of(heap, binary, part(heap, case, 3)?.as_slice())?;
-    Ok(first && second)
+    let letters = part(heap, case, INPUT_IN_TEXT)?;
+    let octets = part(heap, case, INPUT_IN_BINARY)?;
+    Ok(
+        telegram.come_of(heap, text, letters.as_slice())?
+            && telegram.come_of(heap, binary, octets.as_slice())?,
+    )
 }
