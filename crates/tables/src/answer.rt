@@ -8,12 +8,11 @@ use telegram::item::{Item, Placed};
 
 // An item's kind, place, end and canonical letters.
 fn put_item(heap: Global, out: &mut Vec<u8>, item: Placed<Item<'_>>) -> Result<(), AllocError> {
-    let name = item_name(item.value);
-    let place = item.place;
-    let end = item.end;
+    let Placed { value, place, end } = item;
+    let name = item_name(value);
     let front = format!(in heap; "{name} {place} {end} ")?;
     out.extend_from_slice(front.as_bytes())?;
-    put_value(out, item.value)?;
+    put_value(out, value)?;
     out.push(b'\n')?;
     Ok(())
 }

@@ -64,6 +64,15 @@ fn full_scan(rt: HostRuntime) -> Result<(), Fail> {
     Ok(())
 }
 
+// A scan's channels of 16 bits and of 8 bits, and what reading says of it in text and in binary.
+#[derive(Clone, Copy)]
+struct Scan {
+    sixteen: Channels,
+    eight: Channels,
+    in_text: Verdict,
+    in_binary: Verdict,
+}
+
 // A framing, and the pieces in it of a scan with no encoders.
 #[derive(Drop)]
 struct Pieces<F> {
@@ -98,28 +107,16 @@ const IN_BINARY: Pieces<ColaB> = Pieces {
 };
 
 impl<F: Framing + Build> Pieces<F> {
-    // What reading says of a scan with channels of 16 bits and of 8 bits.
-    fn judge(
-        &self,
-        heap: Global,
-        sixteen: Channels,
-        eight: Channels,
-    ) -> Result<Verdict, AllocError> {
+    // What reading says of a scan.
+    fn judge(&self, heap: Global, scan: Scan) -> Result<Verdict, AllocError> {
         let framing = &self.framing;
-        let sixteen = sixteen.build(heap, framing, self.channel, self.sixteen)?;
-        let eight = eight.build(heap, framing, self.channel, self.eight)?;
+        let sixteen = scan
+            .sixteen
+            .build(heap, framing, self.channel, self.sixteen)?;
+        let eight = scan.eight.build(heap, framing, self.channel, self.eight)?;
         let pieces = [self.front, sixteen.as_slice(), eight.as_slice(), self.end];
         Ok(judge(framing, framing.telegram(heap, &pieces)?.as_slice()))
     }
-}
-
-// A scan's channels of 16 bits and of 8 bits, and what reading says of it in text and in binary.
-#[derive(Clone, Copy)]
-struct Scan {
-    sixteen: Channels,
-    eight: Channels,
-    in_text: Verdict,
-    in_binary: Verdict,
 }
 
 // So many channels, of so many values each.
@@ -180,10 +177,8 @@ fn scans_at_limits() -> [Scan; 24] {
 #[test]
 fn scans(rt: HostRuntime) -> Result<(), Fail> {
     for scan in scans_at_limits() {
-        let text = IN_TEXT.judge(rt.alloc(), scan.sixteen, scan.eight)?;
-        let binary = IN_BINARY.judge(rt.alloc(), scan.sixteen, scan.eight)?;
-        assert_eq!(rt; text, scan.in_text);
-        assert_eq!(rt; binary, scan.in_binary);
+        assert_eq!(rt; IN_TEXT.judge(rt.alloc(), scan)?, scan.in_text);
+        assert_eq!(rt; IN_BINARY.judge(rt.alloc(), scan)?, scan.in_binary);
     }
     Ok(())
 }
@@ -191,7 +186,7 @@ fn scans(rt: HostRuntime) -> Result<(), Fail> {
 // Inputs of one byte.
 #[test]
 fn single_bytes(rt: HostRuntime) {
-    for byte in 0..=255u8 {
+    for byte in 0..=u8::MAX {
         assert_eq!(rt; judge(&COLA_A, &[byte]), Err(Reason::Envelope.at(0)));
         assert_eq!(rt; judge(&COLA_B, &[byte]), Err(Reason::Envelope.at(1)));
     }
