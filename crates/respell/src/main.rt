@@ -4,9 +4,10 @@
 use framed::read::LONGEST;
 use framing::respell::respell;
 use known::{Known, lettered, told};
-use std::env;
+use std::env::FillError;
 use std::io::{Read, Write};
 use std::process::ExitCode;
+use std::rt::Env;
 use telegram::refusal::Refusal;
 
 const USAGE: &str = "usage: respell A|B < TELEGRAM";
@@ -14,11 +15,12 @@ const USAGE: &str = "usage: respell A|B < TELEGRAM";
 // One byte more than is allowed, so that an input that is too long shows as such.
 const INPUT: u64 = LONGEST as u64 + 1;
 
-// The framing that the only argument names, if there is just one and it names one.
-fn target(rt: &HostRuntime) -> Option<Known> {
-    let mut words = env::args(rt).ok()?.skip(1);
-    match (words.next(), words.next()) {
-        (Some(word), None) => lettered(word.as_bytes()),
+// The framing that the only argument names, if there is just one and it names one. Words are asked for one by one, into a buffer of the length that counts: std's list of them is refused whole where one of them, the program's own name too, is no UTF-8.
+fn target(rt: &impl Env) -> Option<Known> {
+    let mut word = [0; 2];
+    let length = rt.arg(1, &mut word).ok()?;
+    match rt.arg(2, &mut [0; 1]) {
+        Err(FillError::NotPresent) => lettered(&word[..length]),
         _ => None,
     }
 }

@@ -3,16 +3,17 @@
 
 use framed::read::LONGEST;
 use page::sheet::sheet;
-use std::env;
+use std::env::FillError;
 use std::io::{Read, Write};
 use std::process::ExitCode;
+use std::rt::Env;
 
 // One byte more than is allowed, so that an input that is too long shows as such.
 const INPUT: u64 = LONGEST as u64 + 1;
 
-// Whether any word stands behind the program's name.
-fn has_arguments(rt: &HostRuntime) -> bool {
-    !env::args(rt).is_ok_and(|words| words.len() <= 1)
+// Whether any word stands behind the program's name. It is asked for alone: std's list of words is refused whole where one of them, the program's own name too, is no UTF-8.
+fn has_arguments(rt: &impl Env) -> bool {
+    !matches!(rt.arg(1, &mut [0; 1]), Err(FillError::NotPresent))
 }
 
 // Reads a telegram, and writes its sheet.
