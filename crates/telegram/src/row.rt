@@ -128,6 +128,7 @@ impl Row {
 }
 
 // The catalogue.
+#[tactic(auto, unfolding(crate::specs::Catalogue::rows))]
 fn catalogue() -> &'static [Row]
     ensures { result.now ≡ rows }
 {

@@ -2,12 +2,6 @@ use Rattle.std.proofs.lemmas.Result.{err_from_is_err_and}
 use Rattle.spelling.proofs.Turns.{passing_none, passing_more, passing_fault, passing_walks, stepped_less}
 use Rattle.spelling.proofs.walk.walk.Goals as goal
 
-pub loop-want-init : goal.loop-want-init
-loop-want-init g c = passing_none g.S.Spelling.finds c.args.text.now c.args.row c.args.start c.new.result c.new.ensures _ c.requires c.new-parts.ensures
-
-pub note-parts-requires : goal.note-parts-requires
-note-parts-requires g c = c.in_ok-item.ensures.fits
-
 pub loop-want-smaller : goal.loop-want-smaller
 loop-want-smaller g c = stepped_less g.S.Spelling.finds c.args.text.now c.loop-want.at _ _ c.in_ok-item.ensures
 
@@ -15,11 +9,6 @@ pub loop-want-preserved : goal.loop-want-preserved
 loop-want-preserved g c =
     passing_more g.S.Spelling.finds c.args.text.now _ c.loop-want.at _ _ _ c.loop-want.invariant
     (record { item = c.in_ok-item.item; on = c.in_ok-item.ensures; has = c.note-parts.ensures })
-
-pub returns-in_err-item : goal.returns-in_err-item
-returns-in_err-item g c =
-    let p = err_from_is_err_and c.from_residual.result c.from_residual.ensures.1 in
-    rw (p.1, p.2) (passing_fault g.S.Spelling.finds c.args.text.now c.args.row c.args.start c.new.result c.new.ensures c.loop-want.at _ c.loop-want.invariant _ _ c.in_err-item.ensures)
 
 pub returns : goal.returns
 returns g c = passing_walks g.S.Spelling.finds c.args.text.now c.args.row c.args.start c.new.result c.new.ensures c.loop-want.at _ c.loop-want.invariant c.in_default.ensures
