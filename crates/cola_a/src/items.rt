@@ -6,6 +6,7 @@ ghost use Rattle.cola_a.specs.Digits.{run};
 ghost use Rattle.cola_a.specs.Items.{upward, downward, hexadecimal, is_minus, pattern, decimal, number_after, real_after, bare, signs, Leads};
 
 use crate::digits::{Base, Digits, digits_of};
+use spelling::blank::behind_blank;
 use spelling::text::text_of;
 use telegram::item::{Item, Want};
 use telegram::kind::Kind;
@@ -161,15 +162,9 @@ fn item_after<'b>(want: Want, bytes: &'b [u8]) -> Result<(Item<'b>, usize), Faul
     }
 }
 
-// What is wanted, with its blank. That the bytes end comes before a missing blank.
+// What is wanted, with its blank.
 pub(crate) fn item_of<'b>(want: Want, bytes: &'b [u8]) -> Result<(Item<'b>, usize), Fault>
     ensures { Finds bytes.now (blanked (bare want) bytes.now) result }
 {
-    let (blank, behind) = bytes.split_first().ok_or(Fault::Cut)?;
-    let (item, taken) = item_after(want, behind)?;
-    if *blank == b' ' {
-        Ok((item, 1 + taken))
-    } else {
-        Err(Fault::Misspelt)
-    }
+    behind_blank(bytes, |behind| item_after(want, behind))
 }

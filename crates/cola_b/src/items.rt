@@ -8,6 +8,7 @@ ghost use Rattle.spelling.specs.Write.{Put};
 ghost use Rattle.cola_b.specs.Canon.{octets, canon_binary};
 ghost use Rattle.cola_b.specs.Items.{front, number_in, real_in, bare};
 
+use spelling::blank::behind_blank;
 use spelling::put::{put_blank, put_bytes};
 use spelling::text::text_of;
 use telegram::item::{Item, Want};
@@ -75,12 +76,7 @@ pub(crate) fn item_of<'b>(want: Want, bytes: &'b [u8]) -> Result<(Item<'b>, usiz
 pub(crate) fn blanked_of<'b>(want: Want, bytes: &'b [u8]) -> Result<(Item<'b>, usize), Fault>
     ensures { Finds bytes.now (blanked (bare want) bytes.now) result }
 {
-    let (blank, behind) = bytes.split_first().ok_or(Fault::Cut)?;
-    let (item, taken) = item_of(want, behind)?;
-    if *blank != b' ' {
-        return Err(Fault::Misspelt);
-    }
-    Ok((item, 1 + taken))
+    behind_blank(bytes, |behind| item_of(want, behind))
 }
 
 // The four bytes of a number, the highest first.

@@ -1,3 +1,4 @@
+pub mod Blanks
 pub mod Fairs
 pub mod Walks
 pub mod Turns

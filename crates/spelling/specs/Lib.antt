@@ -2,5 +2,6 @@ pub mod Spell
 pub mod Canon
 pub mod Walk
 pub mod Check
+pub mod Blank
 pub mod Write
 pub mod Round

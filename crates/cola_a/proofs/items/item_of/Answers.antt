@@ -1,0 +1,7 @@
+use Rattle.std.proofs.Common.{rules}
+use Rattle.spelling.proofs.Blanks.{blanked_found}
+use Rattle.cola_a.specs.Items.{bare}
+use Rattle.cola_a.proofs.items.item_of.Goals as goal
+
+pub returns : goal.returns
+returns c = blanked_found (bare c.args.want) _ (λ bs r k. search rules) c.args.bytes.now _ c.behind_blank.ensures
