@@ -107,15 +107,12 @@ module _ (find : Find) (t : List ℕ) (at : Cursor) where
         ∙ ap (more (record { value = v; from = at.place; to = to })) (steady find (length t) (m - 1) (weight (todo q.stage) + q.room) false (todo q.stage) q.room (drop to t) (omega arith) (omega arith))
 
 -- what is found at the start of what stands from a place on
-module _ (f : List ℕ → Spelt) (t rest : List ℕ) (p : ℕ) (is : rest ≡ drop p t) where
-  pub faulted : (e : Fault) → f rest ≡ faulty e → f (drop p t) ≡ faulty e
-  faulted e h = ap f (sym is) ∙ h
+module _ (t : List ℕ) (p n : ℕ) where
+  pub behind : (v : Value) (s : Spelt) → s ≡ found v (drop n (drop p t)) → s ≡ found v (drop (p + n) t)
+  behind v s h = h ∙ ap (found v) (drop-drop n p t)
 
-  pub behind : (v : Value) (n : ℕ) → f rest ≡ found v (drop n rest) → f (drop p t) ≡ found v (drop (p + n) t)
-  behind v n h = ap f (sym is) ∙ h ∙ ap (λ r. found v (drop n r)) is ∙ ap (found v) (drop-drop n p t)
-
-  pub behind_inside : (n : ℕ) → p ≤ length t → n ≤ length rest → p + n ≤ length t
-  behind_inside n h k = omega (arith, h, k, ap length is, length-drop p t)
+  pub behind_inside : p ≤ length t → n ≤ length (drop p t) → p + n ≤ length t
+  behind_inside h k = omega (arith, h, k, length-drop p t)
 
 pub closed_rest : (t : List ℕ) (at : ℕ) → at < length t → (closed (length t) (drop at t)).ending ≡ halt (reason_number Rest) at
 closed_rest t at h = at_drop_more (λ bs. (closed (length t) bs).ending) t at 0 h ∙ ap (halt (reason_number Rest)) (omega (arith, length-drop (at + 1) t))

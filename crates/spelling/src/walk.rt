@@ -3,6 +3,7 @@ ghost use Rattle.std.specs.Prelude.{◌≡◌, ℕ, ◌≤◌, true, length, dro
 ghost use Rattle.layout.specs.Layout.{wanted};
 ghost use Rattle.layout.specs.Follow.{todo};
 ghost use Rattle.layout.specs.Source.{Pulled};
+ghost use Rattle.spelling.specs.Spell.{Finds};
 ghost use Rattle.spelling.specs.Walk.{left};
 ghost use Rattle.spelling.specs.Check.{Checks, Steps, Walks};
 
@@ -12,8 +13,20 @@ use layout::cursor::Cursor;
 use layout::records::Parts;
 use layout::stage::Progress;
 use telegram::item::{Item, Placed, Want};
-use telegram::refusal::{Reason, Refusal};
+use telegram::refusal::{Fault, Reason, Refusal};
 use telegram::row::Row;
+
+// The item that stands at a place, and how many bytes it takes.
+fn found_at<'b, S: Spelling>(
+    first: bool,
+    want: Want,
+    text: &'b [u8],
+    place: usize,
+) -> Result<(Item<'b>, usize), Fault>
+    ensures { Finds (drop place text.now) (S.Spelling.finds first want (drop place text.now)) result }
+{
+    S::find(first, want, tail(text, place))
+}
 
 // The item at a cursor, and the cursor behind it.
 fn step<'b, S: Spelling>(
@@ -26,7 +39,7 @@ fn step<'b, S: Spelling>(
     ensures { Steps S.Spelling.finds text.now at result }
 {
     let place = at.place;
-    let (value, taken) = match S::find(at.first, want, tail(text, place)) {
+    let (value, taken) = match found_at::<S>(at.first, want, text, place) {
         Ok(found) => found,
         Err(fault) => return Err(Reason::from(fault).at(place)),
     };

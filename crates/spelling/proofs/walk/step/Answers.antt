@@ -1,25 +1,24 @@
-use Rattle.std.proofs.Common.{rules, ◌≡◌, ◌+◌, Some, None, sym, ap, ◌∙◌, subst}
+use Rattle.std.proofs.Common.{rules, drop, ◌≡◌, ◌+◌, Some, None, sym, ap, ◌∙◌, subst}
 use Rattle.std.proofs.lemmas.Result.{err_from_is_err_and}
 use Rattle.telegram.specs.Value.{value_of}
 use Rattle.layout.specs.Layout.{wanted, advance}
 use Rattle.layout.specs.Follow.{todo}
 use Rattle.layout.specs.Passing.{Goes, Steps}
 use Rattle.spelling.specs.Walk.{stop, halt}
-use Rattle.spelling.proofs.Walks.{on_fault, on_unfit, on_more, faulted, behind, behind_inside, fair_want, fair_fits}
+use Rattle.spelling.proofs.Walks.{on_fault, on_unfit, on_more, behind, behind_inside, fair_want, fair_fits}
 use Rattle.spelling.proofs.walk.step.Goals as goal
 
 pub returns-in-Err : goal.returns-in-Err
 returns-in-Err g c =
-    let at_fault = on_fault g.S.Spelling.finds c.args.text.now c.args.at c.args.want c.requires.asked c.requires.inside _
-    (faulted (g.S.Spelling.finds c.args.at.first c.args.want) c.args.text.now c.tail.result.now c.args.at.place c.tail.ensures _ c.in-Err.ensures) in
-    rw c.at.ensures (at_fault ∙ ap (λ n. stop (halt n c.args.at.place)) (sym c.from.ensures))
+    rw c.at.ensures
+    (on_fault g.S.Spelling.finds c.args.text.now c.args.at c.args.want c.requires.asked c.requires.inside _ c.in-Err.ensures
+    ∙ ap (λ n. stop (halt n c.args.at.place)) (sym c.from.ensures))
 
 pub returns-in_err-progress : goal.returns-in_err-progress
 returns-in_err-progress g c =
     let p = err_from_is_err_and c.from_residual.result c.from_residual.ensures.1 in
     let n : c.next.result ≡ None = search rules in
-    let f = c.in-Ok.ensures in
-    let found = behind (g.S.Spelling.finds c.args.at.first c.args.want) c.args.text.now c.tail.result.now c.args.at.place c.tail.ensures (value_of c.in-Ok.found.0) c.in-Ok.found.1 f.0 in
+    let found = behind c.args.text.now c.args.at.place c.in-Ok.found.1 (value_of c.in-Ok.found.0) _ c.in-Ok.ensures.0 in
     let unfit = on_unfit g.S.Spelling.finds c.args.text.now c.args.at c.args.want c.requires.asked c.requires.inside _ _ c.number.result found c.number.ensures (subst (Steps c.args.at.progress c.number.result) n c.next.ensures) in
     let why : p.0 ≡ c.at-2.result = search rules in
     rw (p.1, why, c.at-2.ensures) unfit
@@ -31,14 +30,15 @@ returns g c =
     let i = c.in-Ok.found.0 in
     let p = c.args.at.progress in
     let q = c.in_ok-progress.progress in
-    let found = behind (g.S.Spelling.finds c.args.at.first c.args.want) c.args.text.now c.tail.result.now c.args.at.place c.tail.ensures (value_of i) c.in-Ok.found.1 f.0 in
-    let inside = behind_inside (g.S.Spelling.finds c.args.at.first c.args.want) c.args.text.now c.tail.result.now c.args.at.place c.tail.ensures c.in-Ok.found.1 c.requires.inside f.1 in
+    let found = behind c.args.text.now c.args.at.place c.in-Ok.found.1 (value_of i) _ f.0 in
+    let inside = behind_inside c.args.text.now c.args.at.place c.in-Ok.found.1 c.requires.inside f.1 in
     let goes = subst (Steps p c.number.result) n c.next.ensures in
+    let sound = g.met.S.Spelling.sound c.args.at.first c.args.want (drop c.args.at.place c.args.text.now) in
     record {
       goes_on = on_more g.S.Spelling.finds c.args.text.now c.args.at c.args.want c.requires.asked c.requires.inside (value_of i) (c.args.at.place + c.in-Ok.found.1) q c.number.result found inside c.number.ensures goes.0;
       inside = inside;
-      asked = fair_want c.args.want _ (value_of i) _ _ (wanted (todo p.stage)) (g.met.S.Spelling.sound c.args.at.first c.args.want c.tail.result.now) f.0 c.requires.asked;
-      fits = fair_fits c.args.want _ (value_of i) _ _ (wanted (todo p.stage)) (g.met.S.Spelling.sound c.args.at.first c.args.want c.tail.result.now) f.0 c.requires.asked;
+      asked = fair_want c.args.want _ (value_of i) _ _ (wanted (todo p.stage)) sound f.0 c.requires.asked;
+      fits = fair_fits c.args.want _ (value_of i) _ _ (wanted (todo p.stage)) sound f.0 c.requires.asked;
       stepped = ap (advance (todo p.stage) p.room) (sym c.number.ensures) ∙ goes.0;
       goes = subst (λ x. Goes p.stage x q.stage) c.number.ensures goes.1;
     }

@@ -1,5 +1,4 @@
-use Rattle.std.proofs.lemmas.Result.{err_from_is_err_and}
-use Rattle.spelling.proofs.Turns.{passing_none, passing_more, passing_fault, passing_walks, stepped_less}
+use Rattle.spelling.proofs.Turns.{passing_more, passing_walks, stepped_less}
 use Rattle.spelling.proofs.walk.walk.Goals as goal
 
 pub loop-want-smaller : goal.loop-want-smaller
