@@ -48,46 +48,30 @@ fn lead_of(want: Want, first: u8) -> Result<Lead, Fault>
     }
 }
 
-// How many numbers, from 0 up, may stand behind a plus.
-fn up(kind: Kind) -> u64
-    ensures { result ≡ upward kind }
-{
-    match kind {
-        Kind::Int8 => 0x80,
-        Kind::Int32 => 0x8000_0000,
-        _ => kind.span(),
+impl Sign {
+    // How many numbers of a kind, from 0 on, may stand behind the sign: of an unsigned kind, -0 alone.
+    fn limit(self, kind: Kind) -> u64
+        ensures { result ≡ cond (is_minus self) (downward kind) (upward kind) }
+    {
+        match (self, kind) {
+            (Sign::Plus, Kind::Int8) => 0x80,
+            (Sign::Plus, Kind::Int32) => 0x8000_0000,
+            (Sign::Plus, _) => kind.span(),
+            (Sign::Minus, Kind::Int8) => 0x81,
+            (Sign::Minus, Kind::Int32) => 0x8000_0001,
+            (Sign::Minus, _) => 1,
+        }
     }
-}
 
-// How many numbers, from 0 on, may stand behind a minus. An unsigned kind has -0 alone.
-fn down(kind: Kind) -> u64
-    ensures { result ≡ downward kind }
-{
-    match kind {
-        Kind::Int8 => 0x81,
-        Kind::Int32 => 0x8000_0001,
-        _ => 1,
-    }
-}
-
-// How many numbers, from 0 on, may stand behind a sign.
-fn limit(kind: Kind, sign: Sign) -> u64
-    ensures { result ≡ cond (is_minus sign) (downward kind) (upward kind) }
-{
-    match sign {
-        Sign::Plus => up(kind),
-        Sign::Minus => down(kind),
-    }
-}
-
-// The pattern of a number behind a sign: of a negative one, what it lacks to all patterns.
-fn pattern(kind: Kind, sign: Sign, value: u64) -> u64
-    requires { value ≤ patterns kind }
-    ensures { result ≡ pattern kind (is_minus sign) value }
-{
-    match (sign, value) {
-        (Sign::Plus, _) | (Sign::Minus, 0) => value,
-        (Sign::Minus, _) => kind.span() - value,
+    // The pattern of a number of a kind behind the sign: of a negative one, what it lacks to all patterns.
+    fn pattern(self, kind: Kind, value: u64) -> u64
+        requires { value ≤ patterns kind }
+        ensures { result ≡ pattern kind (is_minus self) value }
+    {
+        match (self, value) {
+            (Sign::Plus, _) | (Sign::Minus, 0) => value,
+            (Sign::Minus, _) => kind.span() - value,
+        }
     }
 }
 
@@ -109,10 +93,10 @@ fn signed<'b>(kind: Kind, sign: Sign, bytes: &'b [u8]) -> Result<(Item<'b>, usiz
     ensures { Finds bytes.now (decimal kind (is_minus sign) (run 10 10 0 0 bytes.now)) result }
 {
     let Digits { count, value } = digits_of(bytes, Base::Ten, 10).ok_or(Fault::Misspelt)?;
-    if count == 0 || value >= limit(kind, sign) {
+    if count == 0 || value >= sign.limit(kind) {
         return Err(Fault::Misspelt);
     }
-    Ok((Item::Number(kind, pattern(kind, sign, value) as u32), count))
+    Ok((Item::Number(kind, sign.pattern(kind, value) as u32), count))
 }
 
 // The eight digits of a Real.
