@@ -1,5 +1,7 @@
 -- Digits of a number, hexadecimal and decimal alike. Assumes nothing.
-use Rattle.std.specs.Prelude.{◌≡◌, ℕ, ◌+◌, ◌-◌, ◌*◌, ◌<◌, ◌≤◌, false, cond, ◌&&◌, List, [], ◌∷◌, length, drop, Some, None, Option, ◌==◌, ◌≢◌, nat_le, nat_lt}
+use Rattle.std.specs.Prelude.{◌≡◌, ℕ, ◌+◌, ◌-◌, ◌*◌, ◌<◌, ◌≤◌, false, cond, ◌&&◌, List, [], ◌∷◌, length, drop, Ok, Err, Result, ◌==◌, ◌≢◌, nat_le, nat_lt}
+use Rattle.telegram.specs.declared.refusal.Fault.{Fault}
+use Rattle.telegram.specs.declared.refusal.Fault.TheVariants.{Misspelt}
 use Rattle.cola_a.specs.declared.digits.Base.{Base}
 use Rattle.cola_a.specs.declared.digits.Base.TheVariants.{Ten, Sixteen}
 use Rattle.cola_a.specs.declared.digits.Glyph.{Glyph}
@@ -28,12 +30,12 @@ run base most n v (c ∷ cs) =
     cond (c == 32) (ran n v (c ∷ cs)) (cond (nat_lt (digit c) base && nat_lt n most) more broken)
 
 -- what a byte is after n digits of a base: one more, the blank behind them, or neither
-abbrev pub Says : ℕ → ℕ → ℕ → ℕ → Option Glyph → Type 0
-Says base most n c (Some (Digit d)) = (c ≢ 32) × (d ≡ digit c) × (d < base) × (n < most)
-Says base most n c (Some Blank) = c ≡ 32
-Says base most n c None = (c ≢ 32) × ((nat_lt (digit c) base && nat_lt n most) ≡ false)
+abbrev pub Says : ℕ → ℕ → ℕ → ℕ → Result Glyph Fault → Type 0
+Says base most n c (Ok (Digit d)) = (c ≢ 32) × (d ≡ digit c) × (d < base) × (n < most)
+Says base most n c (Ok Blank) = c ≡ 32
+Says base most n c (Err e) = (e ≡ Misspelt) × (c ≢ 32) × ((nat_lt (digit c) base && nat_lt n most) ≡ false)
 
 -- the answer that reading the run at the start of bytes gives
-abbrev pub Runs : List ℕ → Run → Option Digits → Type 0
-Runs bs r (Some d) = (r ≡ ran d.count d.value (drop d.count bs)) × (d.count ≤ length bs)
-Runs bs r None = r ≡ broken
+abbrev pub Runs : List ℕ → Run → Result Digits Fault → Type 0
+Runs bs r (Ok d) = (r ≡ ran d.count d.value (drop d.count bs)) × (d.count ≤ length bs)
+Runs bs r (Err e) = (e ≡ Misspelt) × (r ≡ broken)

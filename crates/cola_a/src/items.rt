@@ -79,9 +79,7 @@ impl Sign {
 fn plain<'b>(kind: Kind, bytes: &'b [u8]) -> Result<(Item<'b>, usize), Fault>
     ensures { Finds bytes.now (hexadecimal kind (run 16 (2 * width kind) 0 0 bytes.now)) result }
 {
-    let Digits { count, value } = digits_of(bytes, Base::Sixteen, 2 * kind.width()).ok_or(
-        Fault::Misspelt,
-    )?;
+    let Digits { count, value } = digits_of(bytes, Base::Sixteen, 2 * kind.width())?;
     if count == 0 || value >= kind.span() {
         return Err(Fault::Misspelt);
     }
@@ -92,7 +90,7 @@ fn plain<'b>(kind: Kind, bytes: &'b [u8]) -> Result<(Item<'b>, usize), Fault>
 fn signed<'b>(kind: Kind, sign: Sign, bytes: &'b [u8]) -> Result<(Item<'b>, usize), Fault>
     ensures { Finds bytes.now (decimal kind (is_minus sign) (run 10 10 0 0 bytes.now)) result }
 {
-    let Digits { count, value } = digits_of(bytes, Base::Ten, 10).ok_or(Fault::Misspelt)?;
+    let Digits { count, value } = digits_of(bytes, Base::Ten, 10)?;
     if count == 0 || value >= sign.limit(kind) {
         return Err(Fault::Misspelt);
     }
@@ -103,7 +101,7 @@ fn signed<'b>(kind: Kind, sign: Sign, bytes: &'b [u8]) -> Result<(Item<'b>, usiz
 fn eight<'b>(bytes: &'b [u8]) -> Result<(Item<'b>, usize), Fault>
     ensures { Finds bytes.now (real_after bytes.now) result }
 {
-    let Digits { count, value } = digits_of(bytes, Base::Sixteen, 8).ok_or(Fault::Misspelt)?;
+    let Digits { count, value } = digits_of(bytes, Base::Sixteen, 8)?;
     if count != 8 {
         return Err(Fault::Misspelt);
     }

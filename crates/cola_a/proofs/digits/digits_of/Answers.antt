@@ -1,4 +1,4 @@
-use Rattle.std.proofs.Common.{◌≡◌, ℕ, ◌+◌, ◌*◌, ◌^◌, ◌<◌, ◌≤◌, drop, Some, sym, refl, ap, ◌∙◌, subst, arith}
+use Rattle.std.proofs.Common.{◌≡◌, ℕ, ◌+◌, ◌*◌, ◌^◌, ◌<◌, ◌≤◌, drop, Ok, sym, refl, ap, ◌∙◌, subst, arith}
 use Rattle.cola_a.specs.declared.digits.Base.{Base}
 use Rattle.cola_a.specs.declared.digits.Base.TheVariants.{Ten, Sixteen}
 use Rattle.cola_a.specs.declared.digits.Glyph.{Glyph}
@@ -15,8 +15,8 @@ next : (b : Base) (n v d r e : ℕ) → v < 16 ^ n → d < radix b → r ≡ rad
 next b n v d r e h l p q = subst (λ x. v * x + e < 16 ^ (n + 1)) (sym p) (grown (radix b) n v e (sixteen b) h (omega (arith, l, q)))
 
 -- what is known of a glyph, once it is seen which it is
-said : (b : Base) (most n c : ℕ) (g h : Glyph) → Says (radix b) most n c (Some g) → g ≡ h → Says (radix b) most n c (Some h)
-said b most n c g h s e = subst (λ g. Says (radix b) most n c (Some g)) e s
+said : (b : Base) (most n c : ℕ) (g h : Glyph) → Says (radix b) most n c (Ok g) → g ≡ h → Says (radix b) most n c (Ok h)
+said b most n c g h s e = subst (λ g. Says (radix b) most n c (Ok g)) e s
 
 pub overflow_mul-value : goal.overflow_mul-value
 overflow_mul-value c =

@@ -1,4 +1,4 @@
-use Rattle.std.proofs.Common.{rules, ◌≡◌, ℕ, ◌^◌, ◌<◌, List, Some, subst, arith}
+use Rattle.std.proofs.Common.{rules, ◌≡◌, ℕ, ◌^◌, ◌<◌, List, Ok, subst, arith}
 use Rattle.cola_a.specs.Digits.{ran, run, Runs}
 use Rattle.cola_a.specs.Bounds.{Kept, run_kept}
 use Rattle.cola_a.proofs.items.eight.Goals as goal
@@ -11,7 +11,7 @@ low bs rest n v e l =
 
 pub overflow_cast-result : goal.overflow_cast-result
 overflow_cast-result c =
-    let d : c.digits_of.result ≡ Some c.in_ok-count.field-0 = search rules in
+    let d : c.digits_of.result ≡ Ok c.in_ok-count.field-0 = search rules in
     let r = subst (Runs c.args.bytes.now (run 16 8 0 0 c.args.bytes.now)) d c.digits_of.ensures in
     let l = low c.args.bytes.now _ _ _ r.0 c.if-count-ne8.false in
     record { fits = omega (arith, l) }
