@@ -1,2 +1,3 @@
+pub mod Items
 pub mod Read
 pub mod Respell

@@ -1,10 +1,12 @@
 // Bytes that a framing accepts, as a telegram at hand.
 ghost use Rattle.std.specs.Prelude.{◌≡◌, ℕ, ◌+◌, length, drop};
 ghost use Rattle.layout.specs.Source.{values};
+ghost use Rattle.framing.specs.Items.{rest};
 ghost use Rattle.framing.specs.Read.{Keeps, Reads, Accepts};
 
 use crate::framing::{Framing, Meaning};
 use crate::head::Head;
+use crate::items::Items;
 use layout::cursor::Cursor;
 use layout::records::Parts;
 use layout::source::Source;
@@ -38,17 +40,6 @@ impl<'f, 'b, F: Framing> Source for Accepted<'f, 'b, F> {
     }
 }
 
-// What stands from a place on.
-fn tail(text: &[u8], from: usize) -> &[u8]
-    ensures { result.now ≡ drop from text.now }
-{
-    if from < text.len() {
-        &text[from..]
-    } else {
-        &[]
-    }
-}
-
 impl<'f, 'b, F: Framing> Accepted<'f, 'b, F> {
     // The framing.
     pub fn framing(&self) -> &'f F
@@ -64,11 +55,22 @@ impl<'f, 'b, F: Framing> Accepted<'f, 'b, F> {
         self.head.text
     }
 
+    // Its items, one after the other.
+    pub fn items(&self) -> Items<'f, 'b, F>
+        ensures { rest F.Meaning.left result ≡ F.Meaning.left self.now.framing.now self.now.head.text.now self.now.head.start }
+    {
+        Items {
+            framing: self.framing,
+            text: self.head.text,
+            at: self.head.start,
+        }
+    }
+
     // The body, as a part of the input.
     pub fn body(&self) -> &'b [u8]
         ensures { result.now ≡ drop self.now.head.from self.now.head.text.now }
     {
-        tail(self.head.text, self.head.from)
+        self.text().get(self.head.from..).unwrap_or(&[])
     }
 
     // The optional parts of scan data; none of them in any other telegram.
@@ -108,8 +110,6 @@ pub fn accept<'f, 'b, F: Framing>(
     ensures answer { Accepts (λ a. a.framing.now) (λ a. a.head) F.Meaning.left F.Meaning.reads framing.now bytes.now result }
     ensures keeps { Keeps bytes.now (F.Meaning.reads framing.now bytes.now) }
 {
-    match read_in(framing, bytes) {
-        Ok(head) => Ok(Accepted { framing, head }),
-        Err(refusal) => Err(refusal),
-    }
+    let head = read_in(framing, bytes)?;
+    Ok(Accepted { framing, head })
 }

@@ -5,4 +5,5 @@ pub mod accepted;
 pub mod choice;
 pub mod framing;
 pub mod head;
+pub mod items;
 pub mod respell;

@@ -16,8 +16,6 @@ pub fn respell<F: Framing, G: FullFraming>(
     ensures answer { record { answer = answer_of result; output = out.new } ≡ respelt (F.Meaning.reads from.now bytes.now) (G.FullFraming.spells to.now) out.old }
     ensures unique { OneSpelling (G.Meaning.reads to.now) (G.FullFraming.spells to.now) }
 {
-    match accept(from, bytes) {
-        Ok(telegram) => to.write(&telegram, telegram.parts(), out),
-        Err(refusal) => Err(refusal),
-    }
+    let telegram = accept(from, bytes)?;
+    to.write(&telegram, telegram.parts(), out)
 }
