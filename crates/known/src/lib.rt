@@ -11,36 +11,33 @@ use framing::choice::Choice;
 // Text or binary.
 pub type Known = Choice<ColaA, ColaB>;
 
+const IN_TEXT: Known = Choice::First(COLA_A);
+
+const IN_BINARY: Known = Choice::Second(COLA_B);
+
 // The second byte of every binary telegram; of no telegram in text.
 const BINARY_MARK: u8 = 0x02;
 
 fn is_binary(bytes: &[u8]) -> bool
     ensures { result ≡ (slice_index bytes.now 1 == 2) }
 {
-    bytes.len() > 1 && bytes[1] == BINARY_MARK
+    bytes.get(1) == Some(&BINARY_MARK)
 }
 
 // The framing of bytes: binary if the second of them is 02, else text.
 pub fn told(bytes: &[u8]) -> Known
     ensures { result ≡ told bytes.now }
 {
-    if is_binary(bytes) {
-        Choice::Second(COLA_B)
-    } else {
-        Choice::First(COLA_A)
-    }
+    if is_binary(bytes) { IN_BINARY } else { IN_TEXT }
 }
 
 // The framing of a letter, A or B.
 pub fn lettered(word: &[u8]) -> Option<Known>
     ensures { result ≡ lettered word.now }
 {
-    if word.len() != 1 {
-        return None;
-    }
-    match word[0] {
-        b'A' => Some(Choice::First(COLA_A)),
-        b'B' => Some(Choice::Second(COLA_B)),
+    match word {
+        [b'A'] => Some(IN_TEXT),
+        [b'B'] => Some(IN_BINARY),
         _ => None,
     }
 }
@@ -50,8 +47,8 @@ pub fn numbered(number: usize) -> Option<Known>
     ensures { result ≡ numbered number }
 {
     match number {
-        0 => Some(Choice::First(COLA_A)),
-        1 => Some(Choice::Second(COLA_B)),
+        0 => Some(IN_TEXT),
+        1 => Some(IN_BINARY),
         _ => None,
     }
 }
