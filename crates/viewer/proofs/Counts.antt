@@ -1,9 +1,13 @@
--- Items counted one after the other. Assumes nothing.
-use Rattle.std.proofs.Common.{◌≡◌, ℕ, ◌+◌, ◌≤◌, List, ◌∷◌, length, ap, arith}
+-- A telegram that is read has few items. Assumes nothing.
+use Rattle.std.proofs.Common.{◌≡◌, ℕ, ◌≤◌, List, length, subst, arith}
 use lib.ListN.{length-map}
-use Rattle.layout.specs.Source.{Telegram, Within, Seen, values}
+use Rattle.layout.specs.declared.cursor.Cursor.{Cursor}
+use Rattle.layout.specs.Source.{Seen}
+use Rattle.framing.specs.declared.head.Head.{Head}
+use Rattle.framing.specs.Read.{Outcome, accepted, Keeps, telegram, reading_of}
 use Rattle.spelling.proofs.Reaches.{items_few}
 
--- n items of a telegram are counted and one more is at hand: they are few
-pub counted_few : (t : Telegram) (all here after : List Seen) (s : Seen) (n : ℕ) → Within t → values all ≡ t.items → n + length here ≡ length all → here ≡ s ∷ after → n + 1 ≤ 10192
-counted_few t all here after s n h e inv at = omega (arith, inv, ap length at, items_few t h, ap length e, length-map all (λ x. x.value))
+pub few : (bs : List ℕ) (o : Outcome) (left : Cursor → List Seen) (h : Head) → o ≡ accepted (reading_of left h) → Keeps bs o → length (left h.start) ≤ 10192
+few bs o left h e k =
+    let kept : Keeps bs (accepted (reading_of left h)) = subst (Keeps bs) e k in
+    omega (arith, items_few (telegram (reading_of left h)) kept.2, length-map (left h.start) (λ s. s.value))

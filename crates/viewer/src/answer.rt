@@ -1,7 +1,8 @@
 // What a call answers: a number and a place.
 ghost use Rattle.std.specs.Prelude.{◌≡◌, false};
 ghost use Rattle.telegram.specs.Refusal.{reason_number};
-ghost use Rattle.viewer.specs.Answer.{done, refused_at, unknown, says_unknown};
+ghost use Rattle.framing.specs.Respell.{answer_of};
+ghost use Rattle.viewer.specs.Answer.{done, refused_at, unknown, write_answer, says_unknown};
 
 use telegram::refusal::Refusal;
 
@@ -48,6 +49,18 @@ impl Answer {
         Answer {
             number: UNKNOWN_FRAMING,
             place: framing,
+        }
+    }
+}
+
+// So many items or bytes, or a refusal.
+impl From<Result<usize, Refusal>> for Answer {
+    ghost from_gives = { λ outcome answer. (answer ≡ write_answer (answer_of outcome)) × (says_unknown answer.number ≡ false) };
+
+    fn from(outcome: Result<usize, Refusal>) -> Answer {
+        match outcome {
+            Ok(count) => Answer::done(count),
+            Err(refusal) => Answer::refused(refusal),
         }
     }
 }

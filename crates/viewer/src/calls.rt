@@ -1,53 +1,21 @@
 // The calls of a viewer. A slice is, to C, a pointer and then a length. Trusted of the caller: no pointer is null, each points to so many bytes that hold values, and no byte of the output is one of the input or is touched by others during the call.
-ghost use Rattle.std.specs.Prelude.{◌≡◌, false, ◌||◌, length};
-ghost use Rattle.layout.specs.Source.{Within};
-ghost use Rattle.framing.specs.Respell.{respelt};
-ghost use Rattle.viewer.specs.Answer.{says_unknown, is_unknown, read_answer, told, read_by, respelt_by};
+ghost use Rattle.std.specs.Prelude.{◌≡◌, ◌||◌};
+ghost use Rattle.framing.specs.Respell.{answer_of};
+ghost use Rattle.viewer.specs.Answer.{says_unknown, is_unknown, read_answer, write_answer, read_by, respelt_by};
 
 use crate::answer::Answer;
 use framing::accepted::accept;
-use framing::framing::{Framing, FullFraming, Meaning};
+use framing::framing::{Framing, Meaning};
 use framing::respell::respell;
 use known::numbered;
-use layout::source::Source;
+use telegram::refusal::Refusal;
 
-// How many items a telegram has.
-fn count<T: Source>(telegram: &T) -> usize
-    requires { Within (T.Source.telegram telegram.now) }
-    ensures { result ≡ length (T.Source.items telegram.now) }
+// Reads bytes in a framing, and counts the items.
+fn count<F: Framing>(framing: &F, bytes: &[u8]) -> Result<usize, Refusal>
+    ensures { write_answer (answer_of result) ≡ read_answer (F.Meaning.reads framing.now bytes.now) }
 {
-    let mut at = telegram.start();
-    let mut items = 0;
-    loop {
-        let Some((_, next)) = telegram.next(at) else {
-            break;
-        };
-        items += 1;
-        at = next;
-    }
-    items
-}
-
-// Reads bytes in a framing, and answers how many items there are.
-fn read_in<F: Framing>(framing: &F, bytes: &[u8]) -> Answer
-    ensures answer { result ≡ read_answer (F.Meaning.reads framing.now bytes.now) }
-    ensures other { says_unknown result.number ≡ false }
-{
-    match accept(framing, bytes) {
-        Ok(telegram) => Answer::done(count(&telegram)),
-        Err(refusal) => Answer::refused(refusal),
-    }
-}
-
-// Respells bytes from one framing into another, and answers how many bytes are written.
-fn respell_in<F: Framing, G: FullFraming>(from: &F, to: &G, bytes: &[u8], out: &mut [u8]) -> Answer
-    ensures answer { record { answer = result; output = out.new } ≡ told (respelt (F.Meaning.reads from.now bytes.now) (G.FullFraming.spells to.now) out.old) }
-    ensures other { says_unknown result.number ≡ false }
-{
-    match respell(from, to, bytes, out) {
-        Ok(length) => Answer::done(length),
-        Err(refusal) => Answer::refused(refusal),
-    }
+    let telegram = accept(framing, bytes)?;
+    Ok(telegram.items().count())
 }
 
 // Reads a telegram in the framing of a number.
@@ -57,7 +25,7 @@ pub extern "C" fn poqhesti_read(framing: usize, bytes: &[u8]) -> Answer
     ensures unknown { says_unknown result.number ≡ is_unknown framing }
 {
     match numbered(framing) {
-        Some(known) => read_in(&known, bytes),
+        Some(known) => count(&known, bytes).into(),
         None => Answer::unknown(framing),
     }
 }
@@ -74,5 +42,5 @@ pub extern "C" fn poqhesti_respell(from: usize, to: usize, bytes: &[u8], out: &m
     let Some(target) = numbered(to) else {
         return Answer::unknown(to);
     };
-    respell_in(&source, &target, bytes, out)
+    respell(&source, &target, bytes, out).into()
 }
