@@ -1,9 +1,9 @@
 // The line of an item: its kind, its place, and its canonical letters.
-ghost use Rattle.std.specs.Prelude.{◌≡◌, List, ◌++◌, IfOk, string_bytes, OnOk};
+ghost use Rattle.std.specs.Prelude.{◌≡◌, List, ◌++◌, OnOk};
 ghost use Rattle.telegram.specs.Value.{value_of};
 ghost use Rattle.layout.specs.Source.{seen_of};
 ghost use Rattle.cola_a.specs.Canon.{letters};
-ghost use Rattle.page.specs.Page.{kind_name, value_name, front, line};
+ghost use Rattle.page.specs.Page.{kind_name, value_name, line};
 
 use cola_a::canon::{digit_count, put_digits};
 use std::alloc::{AllocError, Global};
@@ -35,15 +35,6 @@ pub fn item_name(item: Item<'_>) -> &'static str
     }
 }
 
-// The front of an item's line: its kind and its place.
-fn front_of(heap: Global, item: Placed<Item<'_>>) -> Result<String, AllocError>
-    ensures { IfOk result (λ s. string_bytes s ≡ front (seen_of item.entry)) }
-{
-    let name = item_name(item.value);
-    let place = item.place;
-    format!(in heap; "{name} {place} ")
-}
-
 // Adds the canonical letters of an item.
 pub fn put_value(out: &mut Vec<u8>, item: Item<'_>) -> Result<(), AllocError>
     ensures { OnOk result (out.new.items ≡ out.old.items ++ letters (value_of item.entry)) }
@@ -67,7 +58,9 @@ pub(crate) fn put_line(
 ) -> Result<(), AllocError>
     ensures { OnOk result (out.new.items ≡ out.old.items ++ line (seen_of item.entry)) }
 {
-    let front = front_of(heap, item)?;
+    let name = item_name(item.value);
+    let place = item.place;
+    let front = format!(in heap; "{name} {place} ")?;
     out.extend_from_slice(front.as_bytes())?;
     put_value(out, item.value)?;
     out.push(b'\n')?;

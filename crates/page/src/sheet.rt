@@ -1,13 +1,15 @@
 // The sheet of bytes: a telegram's type, name and items, or its refusal.
-ghost use Rattle.std.specs.Prelude.{◌≡◌, List, ◌++◌, IfOk, string_bytes, OnOk};
+ghost use Rattle.std.specs.Prelude.{◌≡◌, List, ◌++◌, IfOk, OnOk};
 ghost use Rattle.telegram.specs.Refusal.{reason_number};
+ghost use Rattle.framing.specs.Items.{rest};
 ghost use Rattle.page.specs.Page.{pair, title, lines, refusal, page, sheet_of};
 
 use crate::item::put_line;
+use framing::accepted::{Accepted, accept};
 use framing::framing::{Framing, Meaning};
-use framing::head::Head;
+use framing::items::Items;
 use known::told;
-use layout::cursor::Cursor;
+use layout::source::Source;
 use std::alloc::{AllocError, Global};
 use telegram::refusal::Refusal;
 use telegram::row::Row;
@@ -30,20 +32,16 @@ fn put_title(out: &mut Vec<u8>, row: Row) -> Result<(), AllocError>
     put_pair(out, row.command(), row.name())
 }
 
-// Adds a line for each item of a text, from a cursor on.
+// Adds a line for each item.
 fn put_items<F: Framing>(
     heap: Global,
     out: &mut Vec<u8>,
-    framing: &F,
-    text: &[u8],
-    start: Cursor,
+    items: Items<'_, '_, F>,
 ) -> Result<(), AllocError>
-    ensures { OnOk result (out.new.items ≡ out.old.items ++ lines (F.Meaning.left framing.now text.now start)) }
+    ensures { OnOk result (out.new.items ≡ out.old.items ++ lines (rest F.Meaning.left items.entry)) }
 {
-    let mut at = start;
-    while let Some((item, next)) = framing.pull(text, at) {
+    for item in items {
         put_line(heap, out, item)?;
-        at = next;
     }
     Ok(())
 }
@@ -52,27 +50,19 @@ fn put_items<F: Framing>(
 fn put_telegram<F: Framing>(
     heap: Global,
     out: &mut Vec<u8>,
-    framing: &F,
-    head: Head<'_>,
+    telegram: &Accepted<'_, '_, F>,
 ) -> Result<(), AllocError>
-    ensures { OnOk result (out.new.items ≡ out.old.items ++ (title head.entry.row ++ lines (F.Meaning.left framing.now head.entry.text.now head.entry.start))) }
+    ensures { OnOk result (out.new.items ≡ out.old.items ++ (title telegram.now.head.row ++ lines (F.Meaning.left telegram.now.framing.now telegram.now.head.text.now telegram.now.head.start))) }
 {
-    put_title(out, head.row)?;
-    put_items(heap, out, framing, head.text, head.start)
-}
-
-// The line of a refusal, by its number and its place.
-fn refusal_line(heap: Global, number: u8, place: usize) -> Result<String, AllocError>
-    ensures { IfOk result (λ s. string_bytes s ≡ refusal number place) }
-{
-    format!(in heap; "refused {number} {place}\n")
+    put_title(out, telegram.row())?;
+    put_items(heap, out, telegram.items())
 }
 
 // Adds the line of a refusal.
 fn put_refusal(heap: Global, out: &mut Vec<u8>, why: Refusal) -> Result<(), AllocError>
     ensures { OnOk result (out.new.items ≡ out.old.items ++ refusal (reason_number why.reason) why.place) }
 {
-    let line = refusal_line(heap, why.reason.number(), why.place)?;
+    let line = format!(in heap; "{why}\n")?;
     out.extend_from_slice(line.as_bytes())
 }
 
@@ -81,8 +71,8 @@ pub fn sheet_in<F: Framing>(heap: Global, framing: &F, bytes: &[u8]) -> Result<V
     ensures { IfOk result (λ v. v.items ≡ page (F.Meaning.reads framing.now bytes.now)) }
 {
     let mut out = Vec::new(heap);
-    match framing.read(bytes) {
-        Ok(head) => put_telegram(heap, &mut out, framing, head)?,
+    match accept(framing, bytes) {
+        Ok(telegram) => put_telegram(heap, &mut out, &telegram)?,
         Err(why) => put_refusal(heap, &mut out, why)?,
     }
     Ok(out)
