@@ -1,7 +1,7 @@
 // Bytes that a framing accepts, as a telegram at hand.
 ghost use Rattle.std.specs.Prelude.{◌≡◌, ℕ, ◌+◌, length, drop};
 ghost use Rattle.layout.specs.Source.{values};
-ghost use Rattle.framing.specs.Items.{rest};
+ghost use Rattle.framing.specs.Items.{items_of, rest};
 ghost use Rattle.framing.specs.Read.{Keeps, Reads, Accepts};
 
 use crate::framing::{Framing, Meaning};
@@ -21,9 +21,9 @@ pub struct Accepted<'f, 'b, F> {
 }
 
 impl<'f, 'b, F: Framing> Source for Accepted<'f, 'b, F> {
-    ghost telegram = { λ s. record { row = s.head.row; items = values (F.Meaning.left s.framing.now s.head.text.now s.head.start) } };
+    ghost telegram = { λ s. record { row = s.head.row; items = values (items_of F.Meaning.left s) } };
 
-    ghost items = { λ s. F.Meaning.left s.framing.now s.head.text.now s.head.start };
+    ghost items = { items_of F.Meaning.left };
 
     ghost rest = { λ s. F.Meaning.left s.framing.now s.head.text.now };
 
@@ -57,7 +57,7 @@ impl<'f, 'b, F: Framing> Accepted<'f, 'b, F> {
 
     // Its items, one after the other.
     pub fn items(&self) -> Items<'f, 'b, F>
-        ensures { rest F.Meaning.left result ≡ F.Meaning.left self.now.framing.now self.now.head.text.now self.now.head.start }
+        ensures { rest F.Meaning.left result ≡ items_of F.Meaning.left self.now }
     {
         Items {
             framing: self.framing,

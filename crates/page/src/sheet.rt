@@ -1,7 +1,7 @@
 // The sheet of bytes: a telegram's type, name and items, or its refusal.
 ghost use Rattle.std.specs.Prelude.{◌≡◌, List, ◌++◌, IfOk, OnOk};
 ghost use Rattle.telegram.specs.Refusal.{reason_number};
-ghost use Rattle.framing.specs.Items.{rest};
+ghost use Rattle.framing.specs.Items.{items_of, rest};
 ghost use Rattle.page.specs.Page.{pair, title, lines, refusal, page, sheet_of};
 
 use crate::item::put_line;
@@ -52,7 +52,7 @@ fn put_telegram<F: Framing>(
     out: &mut Vec<u8>,
     telegram: &Accepted<'_, '_, F>,
 ) -> Result<(), AllocError>
-    ensures { OnOk result (out.new.items ≡ out.old.items ++ (title telegram.now.head.row ++ lines (F.Meaning.left telegram.now.framing.now telegram.now.head.text.now telegram.now.head.start))) }
+    ensures { OnOk result (out.new.items ≡ out.old.items ++ (title telegram.now.head.row ++ lines (items_of F.Meaning.left telegram.now))) }
 {
     put_title(out, telegram.row())?;
     put_items(heap, out, telegram.items())

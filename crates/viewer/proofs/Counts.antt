@@ -1,13 +1,15 @@
--- A telegram that is read has few items. Assumes nothing.
-use Rattle.std.proofs.Common.{◌≡◌, ℕ, ◌≤◌, List, length, subst, arith}
+-- A telegram that is accepted has few items. Assumes nothing.
+use Rattle.std.proofs.Common.{ℕ, ◌≤◌, List, length, Ok, subst, ap, arith}
 use lib.ListN.{length-map}
 use Rattle.layout.specs.declared.cursor.Cursor.{Cursor}
 use Rattle.layout.specs.Source.{Seen}
-use Rattle.framing.specs.declared.head.Head.{Head}
-use Rattle.framing.specs.Read.{Outcome, accepted, Keeps, telegram, reading_of}
 use Rattle.spelling.proofs.Reaches.{items_few}
+use Rattle.framing.specs.declared.accepted.Accepted.{Accepted}
+use Rattle.framing.specs.Items.{items_of}
+use Rattle.framing.specs.Read.{Outcome, Keeps, Accepts, telegram, reading_of}
 
-pub few : (bs : List ℕ) (o : Outcome) (left : Cursor → List Seen) (h : Head) → o ≡ accepted (reading_of left h) → Keeps bs o → length (left h.start) ≤ 10192
-few bs o left h e k =
-    let kept : Keeps bs (accepted (reading_of left h)) = subst (Keeps bs) e k in
-    omega (arith, items_few (telegram (reading_of left h)) kept.2, length-map (left h.start) (λ s. s.value))
+pub few : {F : Type 0} (left : F → List ℕ → Cursor → List Seen) (reads : F → List ℕ → Outcome) (f : F) (bs : List ℕ) (a : Accepted F) → Accepts (λ a. a.framing.now) (λ a. a.head) left reads f bs (Ok a) → Keeps bs (reads f bs) → length (items_of left a) ≤ 10192
+few left reads f bs a h k =
+    let is = subst (Keeps bs) h.1.1.0 k in
+    let t = a.head.text.now in
+    omega (arith, ap (λ f. length (left f t a.head.start)) h.0, items_few (telegram (reading_of (left f t) a.head)) is.2, length-map (left f t a.head.start) (λ s. s.value))
