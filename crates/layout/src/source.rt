@@ -37,7 +37,8 @@ pub struct Items<'t, T> {
 
 impl<'t, T: Source> Items<'t, T> {
     pub fn new(telegram: &'t T) -> Items<'t, T>
-        ensures { T.Source.rest result.telegram.now result.at ≡ T.Source.items telegram.now }
+        ensures all { T.Source.rest result.telegram.now result.at ≡ T.Source.items telegram.now }
+        ensures values { values (T.Source.rest result.telegram.now result.at) ≡ (T.Source.telegram telegram.now).items }
     {
         Items {
             telegram,

@@ -1,9 +1,12 @@
 -- One write after another. Assumes nothing.
-use Rattle.std.proofs.Common.{◌≡◌, ℕ, ◌+◌, ◌-◌, ◌≤◌, List, [], ◌++◌, length, take, drop, sym, refl, ap, ◌∙◌, append_assoc, append-nil, arith, length-append, take-append-drop, drop-drop, take-add}
+use Rattle.std.proofs.Common.{◌≡◌, ℕ, ◌+◌, ◌-◌, ◌≤◌, List, [], ◌++◌, length, take, drop, sym, refl, ap, subst, ◌∙◌, append_assoc, append-nil, arith, length-append, take-append-drop, drop-drop, take-add}
+use Rattle.std.specs.Borrow.{MutBor}
 use borrow.Rule.Slice.PartMut.{put_mid}
 use Rattle.std.proofs.lemmas.Slice.{take-put_mid, drop-put_mid}
-use Rattle.std.proofs.lemmas.List.{take_at, drop_at, length-take, drop-take}
+use Rattle.std.proofs.lemmas.List.{take_at, drop_at, length-take, length-drop, drop-take}
+use Rattle.spelling.specs.declared.put.Output.{Output}
 use Rattle.spelling.specs.Write.{Wrap, Snug, Put, enclosed, wrapped}
+use Rattle.spelling.specs.Output.{HasRoom, Begins, Puts}
 
 -- what is alike from q on is alike from a later place on
 pub drop_later : (xs ys : List ℕ) (q r : ℕ) → q ≤ r → drop q xs ≡ drop q ys → drop r xs ≡ drop r ys
@@ -31,6 +34,27 @@ put_mid_lem out ys bs p room same =
 
 pub put_nothing : (out : List ℕ) (p : ℕ) → Put out p [] out p
 put_nothing out p = record { at = omega arith; done = sym (append-nil (take p out)); rest = refl }
+
+-- what was written on is as long as before
+pub put_long : {old new w : List ℕ} {p r : ℕ} → Put old p w new r → p + length w ≤ length old → length new ≡ length old
+put_long {old} {new} {w} {p} {r} h room =
+    omega (arith, h.at, ap length h.done, length-append (take p old) w, length-take p old, length-take r new, ap length h.rest, length-drop r new, length-drop r old)
+
+-- One write on an output after another.
+
+pub puts_puts : {old mid new : Output} {v w : List ℕ} → Puts old v mid → Puts mid w new → Puts old (v ++ w) new
+puts_puts {old} {mid} {new} {v} {w} a b = record { same = b.same ∙ a.same; put = put_put v w a.put b.put }
+
+pub puts_nothing : (out : Output) → Puts out [] out
+puts_nothing out = record { same = refl; put = put_nothing out.bytes.now out.at }
+
+-- what was written on an output that begins at a place
+pub begun_put : {bytes : MutBor (List ℕ)} {at : ℕ} {old new : Output} {w : List ℕ} → Begins bytes at old → Puts old w new → Put bytes.now at w new.bytes.now new.at
+begun_put {bytes} {at} {old} {new} {w} b p = subst (λ n. Put bytes.now n w new.bytes.now new.at) b.from (subst (λ l. Put l old.at w new.bytes.now new.at) b.holds p.put)
+
+-- what is left of an output's room
+pub puts_room : {old new : Output} {w : List ℕ} (n : ℕ) → Puts old w new → HasRoom old (length w + n) → HasRoom new n
+puts_room {old} {new} {w} n p h = omega (arith, p.put.at, put_long p.put (omega arith), h)
 
 -- an equation on the whole
 pub put_is : (old new w : List ℕ) (p n : ℕ) → n ≡ length w → p + n ≤ length old → new ≡ take p old ++ (w ++ drop (p + n) old) → Put old p w new (p + n)

@@ -5,3 +5,4 @@ pub mod Check
 pub mod Blank
 pub mod Write
 pub mod Round
+pub mod Output

@@ -1,28 +1,44 @@
-// Bytes written into an output.
-ghost use Rattle.std.specs.Prelude.{ℕ, ◌+◌, ◌≤◌, [], ◌∷◌, length};
-ghost use Rattle.spelling.specs.Write.{Put};
+// An output on which telegrams are written.
+ghost use Rattle.std.specs.Prelude.{◌≡◌, [], ◌∷◌, length};
+ghost use Rattle.spelling.specs.Output.{HasRoom, Begins, Puts};
 
-// Copies bytes to a place.
-fn copy_to(out: &mut [u8], at: usize, bytes: &[u8])
-    requires { at + length bytes.now ≤ length out.old }
-    ensures { Put out.old at bytes.now out.new (at + length bytes.now) }
-{
-    out[at..at + bytes.len()].copy_from_slice(bytes);
+// Bytes to be written, and the place up to which they are.
+#[derive(Drop)]
+pub struct Output<'o> {
+    bytes: &'o mut [u8],
+    at: usize,
 }
 
-// Writes bytes at a place, and answers the place behind them.
-pub fn put_bytes(out: &mut [u8], at: usize, bytes: &[u8]) -> usize
-    requires { at + length bytes.now ≤ length out.old }
-    ensures { Put out.old at bytes.now out.new result }
-{
-    copy_to(out, at, bytes);
-    at + bytes.len()
-}
+impl<'o> Output<'o> {
+    // An output that is written from a place on.
+    pub fn new(bytes: &'o mut [u8], at: usize) -> Output<'o>
+        ensures { Begins bytes.entry at result }
+    {
+        Output { bytes, at }
+    }
 
-// Writes a blank at a place, and answers the place behind it.
-pub fn put_blank(out: &mut [u8], at: usize) -> usize
-    requires { at + 1 ≤ length out.old }
-    ensures { Put out.old at (32 ∷ []) out.new result }
-{
-    put_bytes(out, at, b" ")
+    // The place behind what is written.
+    pub fn place(&self) -> usize
+        ensures { result ≡ self.now.at }
+    {
+        self.at
+    }
+
+    // Writes bytes.
+    pub fn put(&mut self, bytes: &[u8])
+        requires { HasRoom self.old (length bytes.now) }
+        ensures { Puts self.old bytes.now self.new }
+    {
+        let end = self.at + bytes.len();
+        self.bytes[self.at..end].copy_from_slice(bytes);
+        self.at = end;
+    }
+
+    // Writes a blank.
+    pub fn put_blank(&mut self)
+        requires { HasRoom self.old 1 }
+        ensures { Puts self.old (32 ∷ []) self.new }
+    {
+        self.put(b" ")
+    }
 }

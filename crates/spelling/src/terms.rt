@@ -3,8 +3,10 @@ ghost use Rattle.std.specs.Prelude.{◌≡◌, ℕ, ◌+◌, ◌-◌, ◌≤◌,
 ghost use Rattle.telegram.specs.Value.{value_of};
 ghost use Rattle.spelling.specs.Canon.{Canon, Back};
 ghost use Rattle.spelling.specs.Spell.{Opens, Find, Inside, Sound, Adjoining, Opening, Finds};
-ghost use Rattle.spelling.specs.Write.{Wrap, Snug, Slim, Parted, Reopens, Put, enclosed};
+ghost use Rattle.spelling.specs.Write.{Wrap, Snug, Slim, Parted, Reopens, enclosed};
+ghost use Rattle.spelling.specs.Output.{HasRoom, Puts};
 
+use crate::put::Output;
 use telegram::item::{Item, Want};
 use telegram::refusal::{Fault, Refusal};
 
@@ -55,10 +57,10 @@ pub trait FullSpelling: Spelling {
         requires { length (Self.Spelling.canon first (value_of item)) ≤ 65536 }
         ensures { result ≡ length (Self.Spelling.canon first (value_of item.entry)) };
 
-    // Writes an item at a place, and answers the place behind it.
-    fn put(first: bool, item: Item<'_>, out: &mut [u8], at: usize) -> usize
-        requires { at + length (Self.Spelling.canon first (value_of item)) ≤ length out.old }
-        ensures { Put out.old at (Self.Spelling.canon first (value_of item.entry)) out.new result };
+    // Writes an item.
+    fn put(first: bool, item: Item<'_>, out: &mut Output<'_>)
+        requires { HasRoom out.old (length (Self.Spelling.canon first (value_of item))) }
+        ensures { Puts out.old (Self.Spelling.canon first (value_of item.entry)) out.new };
 
     // How many bytes stand before a body, and how many behind it.
     fn margins() -> (usize, usize)

@@ -1,53 +1,40 @@
 // The optional parts of scan data, taken apart and written.
-ghost use Rattle.std.specs.Prelude.{◌≡◌, ℕ, ◌+◌, ◌≤◌, Bool, false, List, map, length, if◌then◌else◌};
+ghost use Rattle.std.specs.Prelude.{◌≡◌, ◌+◌, ◌≤◌, false, List, map, length};
 ghost use Rattle.telegram.specs.Value.{value_of};
 ghost use Rattle.layout.specs.Passing.{position_items, label_items, time_items, parts_items};
 ghost use Rattle.spelling.specs.Canon.{written};
-ghost use Rattle.spelling.specs.Write.{Put};
+ghost use Rattle.spelling.specs.Output.{HasRoom, Puts};
 ghost use Rattle.writing.specs.Parts.{Sized, Labelled};
 
 use layout::records::{Parts, Position, Time};
+use spelling::put::Output;
 use spelling::terms::{FullSpelling, Spelling};
 use telegram::item::Item;
 use telegram::kind::Kind;
 
+// The flag of what is absent.
 const ABSENT: Item<'static> = Item::Number(Kind::Uint16, 0);
 
+// The flag of what is there.
 const PRESENT: Item<'static> = Item::Number(Kind::Uint16, 1);
 
-// Writes items, the first of them as a telegram's first or not, and answers the place behind them.
-pub(crate) fn put_all<S: FullSpelling>(
-    first: bool,
-    items: &[Item<'_>],
-    out: &mut [u8],
-    at: usize,
-) -> usize
-    requires { at + length (written S.Spelling.canon first (map value_of items.now)) ≤ length out.old }
-    ensures { Put out.old at (written S.Spelling.canon first (map value_of items.now)) out.new result }
+// Writes items, the first of them as a telegram's first or not.
+fn put_all<S: FullSpelling>(first: bool, items: &[Item<'_>], out: &mut Output<'_>)
+    requires { HasRoom out.old (length (written S.Spelling.canon first (map value_of items.now))) }
+    ensures { Puts out.old (written S.Spelling.canon first (map value_of items.now)) out.new }
 {
-    let mut place = at;
-    let mut leads = first;
-    let mut i = 0;
-    while i < items.len() {
-        place = S::put(leads, items[i], out, place);
-        leads = false;
-        i += 1;
+    for (i, item) in items.iter().enumerate() {
+        S::put(first && i == 0, *item, out);
     }
-    place
 }
 
 // Writes the flag of a position and, where there is one, the position.
-fn put_position<S: FullSpelling>(
-    first: bool,
-    position: Option<Position>,
-    out: &mut [u8],
-    at: usize,
-) -> usize
-    requires { at + length (written S.Spelling.canon first (position_items position)) ≤ length out.old }
-    ensures { Put out.old at (written S.Spelling.canon first (position_items position)) out.new result }
+fn put_position<S: FullSpelling>(first: bool, position: Option<Position>, out: &mut Output<'_>)
+    requires { HasRoom out.old (length (written S.Spelling.canon first (position_items position))) }
+    ensures { Puts out.old (written S.Spelling.canon first (position_items position)) out.new }
 {
     match position {
-        None => put_all::<S>(first, &[ABSENT], out, at),
+        None => put_all::<S>(first, &[ABSENT], out),
         Some(p) => put_all::<S>(
             first,
             &[
@@ -62,19 +49,18 @@ fn put_position<S: FullSpelling>(
                 Item::Number(Kind::Uint8, u32::from(p.sends_name)),
             ],
             out,
-            at,
         ),
     }
 }
 
 // Writes the flag of a name or a comment and, where there is one, its length and its text.
-fn put_label<S: FullSpelling>(label: Option<&[u8]>, out: &mut [u8], at: usize) -> usize
+fn put_label<S: FullSpelling>(label: Option<&[u8]>, out: &mut Output<'_>)
     requires sized { Sized label }
-    requires room { at + length (written S.Spelling.canon false (label_items label)) ≤ length out.old }
-    ensures { Put out.old at (written S.Spelling.canon false (label_items label.entry)) out.new result }
+    requires room { HasRoom out.old (length (written S.Spelling.canon false (label_items label))) }
+    ensures { Puts out.old (written S.Spelling.canon false (label_items label.entry)) out.new }
 {
     match label {
-        None => put_all::<S>(false, &[ABSENT], out, at),
+        None => put_all::<S>(false, &[ABSENT], out),
         Some(text) => put_all::<S>(
             false,
             &[
@@ -83,18 +69,17 @@ fn put_label<S: FullSpelling>(label: Option<&[u8]>, out: &mut [u8], at: usize) -
                 Item::Text(text),
             ],
             out,
-            at,
         ),
     }
 }
 
 // Writes the flag of a time and, where there is one, the time.
-fn put_time<S: FullSpelling>(time: Option<Time>, out: &mut [u8], at: usize) -> usize
-    requires { at + length (written S.Spelling.canon false (time_items time)) ≤ length out.old }
-    ensures { Put out.old at (written S.Spelling.canon false (time_items time)) out.new result }
+fn put_time<S: FullSpelling>(time: Option<Time>, out: &mut Output<'_>)
+    requires { HasRoom out.old (length (written S.Spelling.canon false (time_items time))) }
+    ensures { Puts out.old (written S.Spelling.canon false (time_items time)) out.new }
 {
     match time {
-        None => put_all::<S>(false, &[ABSENT], out, at),
+        None => put_all::<S>(false, &[ABSENT], out),
         Some(t) => put_all::<S>(
             false,
             &[
@@ -108,44 +93,30 @@ fn put_time<S: FullSpelling>(time: Option<Time>, out: &mut [u8], at: usize) -> u
                 Item::Number(Kind::Uint32, t.microsecond),
             ],
             out,
-            at,
         ),
     }
 }
 
-// Writes the items that the records stand for, and the event's flag, and answers the place behind them.
-pub(crate) fn put_parts<S: FullSpelling>(
-    first: bool,
-    parts: Parts<'_>,
-    out: &mut [u8],
-    at: usize,
-) -> usize
+// Writes the items that the records stand for, and the event's flag.
+pub(crate) fn put_parts<S: FullSpelling>(first: bool, parts: Parts<'_>, out: &mut Output<'_>)
     requires labelled { Labelled parts }
-    requires room { at + length (written S.Spelling.canon first (parts_items parts)) ≤ length out.old }
-    ensures { Put out.old at (written S.Spelling.canon first (parts_items parts.entry)) out.new result }
+    requires room { HasRoom out.old (length (written S.Spelling.canon first (parts_items parts))) }
+    ensures { Puts out.old (written S.Spelling.canon first (parts_items parts.entry)) out.new }
 {
-    let at = put_position::<S>(first, parts.position, out, at);
-    let at = put_label::<S>(parts.name, out, at);
-    let at = put_label::<S>(parts.comment, out, at);
-    let at = put_time::<S>(parts.time, out, at);
-    put_all::<S>(false, &[ABSENT], out, at)
+    put_position::<S>(first, parts.position, out);
+    put_label::<S>(parts.name, out);
+    put_label::<S>(parts.comment, out);
+    put_time::<S>(parts.time, out);
+    put_all::<S>(false, &[ABSENT], out);
 }
 
-// How many items a record stands for, with its flag.
-fn items_of(present: bool, items: usize) -> usize
-    requires { items ≤ 8 }
-    ensures { result ≡ (if present then 1 + items else 1) }
-{
-    if present { 1 + items } else { 1 }
-}
-
-// How many items the records stand for, the event's flag included.
+// How many items the records stand for: a flag and maybe fields of each part, and the event's flag.
 pub(crate) fn count(parts: Parts<'_>) -> usize
     ensures { result ≡ length (parts_items parts.entry) }
 {
-    items_of(parts.position.is_some(), 8)
-        + items_of(parts.name.is_some(), 2)
-        + items_of(parts.comment.is_some(), 2)
-        + items_of(parts.time.is_some(), 7)
-        + 1
+    let fields = parts.position.map_or(0, |_| 8)
+        + parts.name.map_or(0, |_| 2)
+        + parts.comment.map_or(0, |_| 2)
+        + parts.time.map_or(0, |_| 7);
+    5 + fields
 }

@@ -3,15 +3,16 @@ ghost use Rattle.std.specs.Prelude.{◌≡◌, ℕ, ◌+◌, ◌≤◌, Bool, tr
 ghost use Rattle.telegram.specs.Catalogue.{command, name};
 ghost use Rattle.layout.specs.Source.{Within, Told, values};
 ghost use Rattle.spelling.specs.Canon.{written};
-ghost use Rattle.spelling.specs.Write.{Put, Wrote, body_of, spelled};
+ghost use Rattle.spelling.specs.Write.{Wrote, body_of, spelled};
+ghost use Rattle.spelling.specs.Output.{HasRoom, Puts};
 ghost use Rattle.writing.specs.Parts.{Labelled};
 ghost use Rattle.writing.specs.Room.{Fits};
 
 use crate::parts::{count, put_parts};
 use layout::parts::is_scan;
 use layout::records::Parts;
-use layout::source::Source;
-use spelling::put::{put_blank, put_bytes};
+use layout::source::{Items, Source};
+use spelling::put::Output;
 use spelling::terms::{FullSpelling, Spelling};
 use telegram::refusal::{Reason, Refusal};
 use telegram::row::Row;
@@ -30,73 +31,56 @@ fn gauge<S: FullSpelling, T: Source>(telegram: &T) -> Measure
     ensures items { result.items ≡ length (T.Source.telegram telegram.now).items }
     ensures bytes { result.bytes ≡ length (written S.Spelling.canon true (T.Source.telegram telegram.now).items) }
 {
-    let mut at = telegram.start();
     let mut items = 0;
     let mut bytes = 0;
-    loop {
-        let Some((item, next)) = telegram.next(at) else {
-            break;
-        };
+    for item in Items::new(telegram) {
         bytes += S::size(items == 0, item.value);
         items += 1;
-        at = next;
     }
     Measure { items, bytes }
 }
 
-// Writes the type and the name of a row, and answers the place behind them.
-fn put_head(row: Row, out: &mut [u8], at: usize) -> usize
-    requires { at + length (command row ++ (32 ∷ name row)) ≤ length out.old }
-    ensures { Put out.old at (command row ++ (32 ∷ name row)) out.new result }
+// Writes the type and the name of a row.
+fn put_head(row: Row, out: &mut Output<'_>)
+    requires { HasRoom out.old (length (command row ++ (32 ∷ name row))) }
+    ensures { Puts out.old (command row ++ (32 ∷ name row)) out.new }
 {
-    let at = put_bytes(out, at, row.command());
-    let at = put_blank(out, at);
-    put_bytes(out, at, row.name())
+    out.put(row.command());
+    out.put_blank();
+    out.put(row.name());
 }
 
-// Writes the first items of a telegram, and answers the place behind them.
-fn put_items<S: FullSpelling, T: Source>(telegram: &T, n: usize, out: &mut [u8], at: usize) -> usize
-    requires { at + length (written S.Spelling.canon true (take n (T.Source.telegram telegram.now).items)) ≤ length out.old }
-    ensures { Put out.old at (written S.Spelling.canon true (take n (T.Source.telegram telegram.now).items)) out.new result }
+// Writes the first items of a telegram.
+fn put_items<S: FullSpelling, T: Source>(telegram: &T, n: usize, out: &mut Output<'_>)
+    requires { HasRoom out.old (length (written S.Spelling.canon true (take n (T.Source.telegram telegram.now).items))) }
+    ensures { Puts out.old (written S.Spelling.canon true (take n (T.Source.telegram telegram.now).items)) out.new }
 {
-    let mut cursor = telegram.start();
-    let mut place = at;
-    let mut first = true;
-    let mut left = n;
-    while left > 0 {
-        let Some((item, next)) = telegram.next(cursor) else {
-            break;
-        };
-        place = S::put(first, item.value, out, place);
-        first = false;
-        cursor = next;
-        left -= 1;
+    for (i, item) in Items::new(telegram).take(n).enumerate() {
+        S::put(i == 0, item.value, out);
     }
-    place
 }
 
-// Writes the head and the items of a telegram, and answers the place behind them.
+// Writes the head and the items of a telegram.
 fn put_body<S: FullSpelling, T: Source>(
     telegram: &T,
     parts: Parts<'_>,
     items: usize,
-    out: &mut [u8],
-    at: usize,
-) -> usize
+    out: &mut Output<'_>,
+)
     requires counted { items ≡ length (T.Source.telegram telegram.now).items }
     requires told { Told (T.Source.telegram telegram.now) parts }
     requires labelled { Labelled parts }
-    requires room { at + length (body_of S.Spelling.canon (T.Source.telegram telegram.now)) ≤ length out.old }
-    ensures { Put out.old at (body_of S.Spelling.canon (T.Source.telegram telegram.now)) out.new result }
+    requires room { HasRoom out.old (length (body_of S.Spelling.canon (T.Source.telegram telegram.now))) }
+    ensures { Puts out.old (body_of S.Spelling.canon (T.Source.telegram telegram.now)) out.new }
 {
     let row = telegram.row();
-    let at = put_head(row, out, at);
+    put_head(row, out);
     if is_scan(row) {
         let lead = items - count(parts);
-        let at = put_items::<S, T>(telegram, lead, out, at);
-        put_parts::<S>(lead == 0, parts, out, at)
+        put_items::<S, T>(telegram, lead, out);
+        put_parts::<S>(lead == 0, parts, out);
     } else {
-        put_items::<S, T>(telegram, items, out, at)
+        put_items::<S, T>(telegram, items, out);
     }
 }
 
@@ -157,7 +141,9 @@ fn put_whole<S: FullSpelling, T: Source>(
     ensures { out.new ≡ spelled S.Spelling.canon S.FullSpelling.wrap (T.Source.telegram telegram.now) ++ drop (length (spelled S.Spelling.canon S.FullSpelling.wrap (T.Source.telegram telegram.now))) out.old }
 {
     let (before, _) = S::margins();
-    let end = put_body::<S, T>(telegram, parts, items, out, before);
+    let mut body = Output::new(&mut *out, before);
+    put_body::<S, T>(telegram, parts, items, &mut body);
+    let end = body.place();
     S::enclose(out, end);
 }
 

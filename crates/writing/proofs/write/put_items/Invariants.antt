@@ -1,12 +1,11 @@
-use Rattle.std.proofs.Common.{true, take}
+use Rattle.std.proofs.Common.{true, ◌+◌, ◌^◌, ◌<◌, eqb, take}
 use Rattle.layout.specs.Source.{values}
 use Rattle.spelling.specs.Canon.{written}
 use Rattle.writing.proofs.Fillings.{Filling}
 use Rattle.writing.proofs.write.put_items.Given as goal
 
-abbrev pub invariant-loop-left : goal.invariant-loop-left
-invariant-loop-left g l =
-    Filling g.S.Spelling.canon (written g.S.Spelling.canon true (take l.initial.left (g.T.Source.telegram l.telegram).items)) l.first (take l.left (values (g.T.Source.rest l.telegram l.cursor))) l.initial.out l.at l.out l.place
-
-abbrev pub decreases-loop-left : goal.decreases-loop-left
-decreases-loop-left g l = l.left
+abbrev pub invariant-loop-i : goal.invariant-loop-i
+invariant-loop-i g l =
+    (goal.iterator-loop-i g).can_next l.i-iterator × (goal.iterator-loop-i g).is_finite l.i-iterator
+    × (l.i-iterator.count + l.i-iterator.iter.n < 2 ^ 64)
+    × Filling g.S.Spelling.canon (written g.S.Spelling.canon true (take l.n (g.T.Source.telegram l.telegram).items)) (eqb l.i-iterator.count 0) (take l.i-iterator.iter.n (values (g.T.Source.rest l.i-iterator.iter.iter.telegram.now l.i-iterator.iter.iter.at))) l.initial.out l.out
