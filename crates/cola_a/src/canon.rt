@@ -1,10 +1,10 @@
 // Items written: the canonical letters of a value, behind a blank.
-ghost use Rattle.std.specs.Prelude.{◌≡◌, ℕ, ◌+◌, ◌<◌, ◌≤◌, List, ◌∷◌, ◌++◌, length, take, drop};
+ghost use Rattle.std.specs.Prelude.{◌≡◌, ℕ, ◌+◌, ◌<◌, ◌≤◌, List, ◌∷◌, length};
 ghost use Rattle.telegram.specs.Value.{value_of};
-ghost use Rattle.spelling.specs.Write.{Put};
+ghost use Rattle.spelling.specs.Output.{HasRoom, Puts};
 ghost use Rattle.cola_a.specs.Canon.{letter, hex_digits, hexadecimals, letters, size};
 
-use spelling::put::{put_blank, put_bytes};
+use spelling::put::Output;
 use telegram::item::Item;
 
 // How many digits a Real has.
@@ -50,49 +50,47 @@ pub fn digit_count(item: Item<'_>) -> usize
     }
 }
 
-// Writes the n lowest digits of `value` at a place, and answers the place behind them.
-pub fn put_digits(n: usize, value: u32, out: &mut [u8], at: usize) -> usize
-    requires { at + n ≤ length out.old }
-    ensures { Put out.old at (hexadecimals n value) out.new result }
+// Writes the lowest digits of `value`, as many as there is room for.
+pub fn write_digits(digits: &mut [u8], value: u32)
+    ensures { digits.new ≡ hexadecimals (length digits.old) value.entry }
 {
-    let mut i = n;
     let mut rest = value;
-    while i > 0 {
-        i -= 1;
-        out[at + i] = letter_of(rest % 16);
+    for i in (0..digits.len()).rev() {
+        digits[i] = letter_of(rest % 16);
         rest /= 16;
     }
-    at + n
 }
 
-// Writes the n lowest digits of `value` from `at` on.
-#[tactic(auto, using(crate::specs::Writes::laid))]
-pub fn write_digits(out: &mut [u8], at: usize, n: usize, value: u32)
-    requires { at + n ≤ length out.old }
-    ensures { out.new ≡ take at out.old ++ (hexadecimals n value ++ drop (at + n) out.old) }
+// Writes the n lowest digits of `value`.
+fn put_digits(n: usize, value: u32, out: &mut Output<'_>)
+    requires few { n ≤ 8 }
+    requires room { HasRoom out.old n }
+    ensures { Puts out.old (hexadecimals n value.entry) out.new }
 {
-    put_digits(n, value, out, at);
+    let mut digits = [0; 8];
+    let digits = &mut digits[..n];
+    write_digits(digits, value);
+    out.put(digits);
 }
 
-// Writes the letters of an item, and answers the place behind them.
-fn put_letters(item: Item<'_>, out: &mut [u8], at: usize) -> usize
-    requires { at + length (letters (value_of item)) ≤ length out.old }
-    ensures { Put out.old at (letters (value_of item.entry)) out.new result }
+// Writes the letters of an item.
+fn put_letters(item: Item<'_>, out: &mut Output<'_>)
+    requires { HasRoom out.old (length (letters (value_of item))) }
+    ensures { Puts out.old (letters (value_of item.entry)) out.new }
 {
     match item {
-        Item::Number(_, value) => put_digits(hex_digits(value).max(1), value, out, at),
-        Item::Real(value) => put_digits(REAL_DIGITS, value, out, at),
-        Item::Text(s) => put_bytes(out, at, s),
+        Item::Number(_, value) | Item::Real(value) => put_digits(digit_count(item), value, out),
+        Item::Text(s) => out.put(s),
     }
 }
 
-// Writes an item behind its blank, and answers the place behind it.
-pub(crate) fn put_item(item: Item<'_>, out: &mut [u8], at: usize) -> usize
-    requires { at + (1 + length (letters (value_of item))) ≤ length out.old }
-    ensures { Put out.old at (32 ∷ letters (value_of item.entry)) out.new result }
+// Writes an item behind its blank.
+pub(crate) fn put_item(item: Item<'_>, out: &mut Output<'_>)
+    requires { HasRoom out.old (1 + length (letters (value_of item))) }
+    ensures { Puts out.old (32 ∷ letters (value_of item.entry)) out.new }
 {
-    let at = put_blank(out, at);
-    put_letters(item, out, at)
+    out.put_blank();
+    put_letters(item, out);
 }
 
 // How many letters an item has.

@@ -4,7 +4,6 @@ ghost use Rattle.spelling.specs.Spell.{Opening};
 ghost use Rattle.spelling.specs.Write.{enclosed};
 ghost use Rattle.cola_a.specs.Envelope.{marked, mark, open_text, wrap_text};
 
-use spelling::put::put_bytes;
 use spelling::terms::Extent;
 use telegram::refusal::{Reason, Refusal};
 
@@ -50,6 +49,6 @@ pub(crate) fn put_envelope(out: &mut [u8], to: usize)
     requires room { to + 1 ≤ length out.old }
     ensures { out.new ≡ enclosed wrap_text out.old to }
 {
-    put_bytes(out, 0, &[START]);
-    put_bytes(out, to, &[END]);
+    out[0] = START;
+    out[to] = END;
 }

@@ -11,6 +11,7 @@ ghost use Rattle.cola_a.specs.Wraps.{text_slim, text_parted, text_snug, text_reo
 use crate::canon::{item_size, put_item};
 use crate::envelope::{open_text, put_envelope};
 use crate::items::item_of;
+use spelling::put::Output;
 use spelling::terms::{Extent, FullSpelling, Spelling};
 use telegram::item::{Item, Want};
 use telegram::refusal::{Fault, Refusal};
@@ -64,8 +65,8 @@ impl FullSpelling for Letters {
         item_size(item)
     }
 
-    fn put(_first: bool, item: Item<'_>, out: &mut [u8], at: usize) -> usize {
-        put_item(item, out, at)
+    fn put(_first: bool, item: Item<'_>, out: &mut Output<'_>) {
+        put_item(item, out)
     }
 
     fn margins() -> (usize, usize) {

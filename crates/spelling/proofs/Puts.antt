@@ -1,12 +1,11 @@
 -- One write after another. Assumes nothing.
 use Rattle.std.proofs.Common.{◌≡◌, ℕ, ◌+◌, ◌-◌, ◌≤◌, List, [], ◌++◌, length, take, drop, sym, refl, ap, subst, ◌∙◌, append_assoc, append-nil, arith, length-append, take-append-drop, drop-drop, take-add}
-use Rattle.std.specs.Borrow.{MutBor}
 use borrow.Rule.Slice.PartMut.{put_mid}
 use Rattle.std.proofs.lemmas.Slice.{take-put_mid, drop-put_mid}
 use Rattle.std.proofs.lemmas.List.{take_at, drop_at, length-take, length-drop, drop-take}
 use Rattle.spelling.specs.declared.put.Output.{Output}
 use Rattle.spelling.specs.Write.{Wrap, Snug, Put, enclosed, wrapped}
-use Rattle.spelling.specs.Output.{HasRoom, Begins, Puts}
+use Rattle.spelling.specs.Output.{HasRoom, Puts}
 
 -- what is alike from q on is alike from a later place on
 pub drop_later : (xs ys : List ℕ) (q r : ℕ) → q ≤ r → drop q xs ≡ drop q ys → drop r xs ≡ drop r ys
@@ -47,10 +46,6 @@ puts_puts {old} {mid} {new} {v} {w} a b = record { same = b.same ∙ a.same; put
 
 pub puts_nothing : (out : Output) → Puts out [] out
 puts_nothing out = record { same = refl; put = put_nothing out.bytes.now out.at }
-
--- what was written on an output that begins at a place
-pub begun_put : {bytes : MutBor (List ℕ)} {at : ℕ} {old new : Output} {w : List ℕ} → Begins bytes at old → Puts old w new → Put bytes.now at w new.bytes.now new.at
-begun_put {bytes} {at} {old} {new} {w} b p = subst (λ n. Put bytes.now n w new.bytes.now new.at) b.from (subst (λ l. Put l old.at w new.bytes.now new.at) b.holds p.put)
 
 -- what is left of an output's room
 pub puts_room : {old new : Output} {w : List ℕ} (n : ℕ) → Puts old w new → HasRoom old (length w + n) → HasRoom new n

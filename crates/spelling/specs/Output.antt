@@ -1,18 +1,11 @@
 -- An output while it is written. Assumes nothing.
 use Rattle.std.specs.Prelude.{◌≡◌, ℕ, ◌+◌, ◌≤◌, List, length}
-use Rattle.std.specs.Borrow.{MutBor}
 use Rattle.spelling.specs.declared.put.Output.{Output}
 use Rattle.spelling.specs.Write.{Put}
 
 -- so many bytes more fit into an output
 abbrev pub HasRoom : Output → ℕ → Type 0
 HasRoom out n = out.at + n ≤ length out.bytes.now
-
--- an output over a slice, written from a place on
-pub record Begins (bytes : MutBor (List ℕ)) (at : ℕ) (out : Output) : Type 0 where
-  pub same : out.bytes.ghost_name ≡ bytes.ghost_name
-  pub holds : out.bytes.now ≡ bytes.now
-  pub from : out.at ≡ at
 
 -- w was written on an output, which is still over the same slice
 pub record Puts (old : Output) (w : List ℕ) (new : Output) : Type 0 where

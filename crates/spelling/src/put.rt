@@ -1,29 +1,15 @@
 // An output on which telegrams are written.
-ghost use Rattle.std.specs.Prelude.{◌≡◌, [], ◌∷◌, length};
-ghost use Rattle.spelling.specs.Output.{HasRoom, Begins, Puts};
+ghost use Rattle.std.specs.Prelude.{[], ◌∷◌, length};
+ghost use Rattle.spelling.specs.Output.{HasRoom, Puts};
 
 // Bytes to be written, and the place up to which they are.
 #[derive(Drop)]
 pub struct Output<'o> {
-    bytes: &'o mut [u8],
-    at: usize,
+    pub bytes: &'o mut [u8],
+    pub at: usize,
 }
 
-impl<'o> Output<'o> {
-    // An output that is written from a place on.
-    pub fn new(bytes: &'o mut [u8], at: usize) -> Output<'o>
-        ensures { Begins bytes.entry at result }
-    {
-        Output { bytes, at }
-    }
-
-    // The place behind what is written.
-    pub fn place(&self) -> usize
-        ensures { result ≡ self.now.at }
-    {
-        self.at
-    }
-
+impl Output<'_> {
     // Writes bytes.
     pub fn put(&mut self, bytes: &[u8])
         requires { HasRoom self.old (length bytes.now) }

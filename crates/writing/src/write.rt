@@ -141,9 +141,12 @@ fn put_whole<S: FullSpelling, T: Source>(
     ensures { out.new ≡ spelled S.Spelling.canon S.FullSpelling.wrap (T.Source.telegram telegram.now) ++ drop (length (spelled S.Spelling.canon S.FullSpelling.wrap (T.Source.telegram telegram.now))) out.old }
 {
     let (before, _) = S::margins();
-    let mut body = Output::new(&mut *out, before);
+    let mut body = Output {
+        bytes: &mut *out,
+        at: before,
+    };
     put_body::<S, T>(telegram, parts, items, &mut body);
-    let end = body.place();
+    let end = body.at;
     S::enclose(out, end);
 }
 
