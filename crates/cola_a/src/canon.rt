@@ -52,7 +52,7 @@ pub fn digit_count(item: Item<'_>) -> usize
 
 // Writes the lowest digits of `value`, as many as there is room for.
 pub fn write_digits(digits: &mut [u8], value: u32)
-    ensures { digits.new ≡ hexadecimals (length digits.old) value.entry }
+    ensures { digits.new ≡ hexadecimals (length digits.old) value }
 {
     let mut rest = value;
     for i in (0..digits.len()).rev() {
@@ -65,7 +65,7 @@ pub fn write_digits(digits: &mut [u8], value: u32)
 fn put_digits(n: usize, value: u32, out: &mut Output<'_>)
     requires few { n ≤ 8 }
     requires room { HasRoom out.old n }
-    ensures { Puts out.old (hexadecimals n value.entry) out.new }
+    ensures { Puts out.old (hexadecimals n value) out.new }
 {
     let mut digits = [0; 8];
     let digits = &mut digits[..n];

@@ -4,8 +4,7 @@ ghost use Rattle.spelling.specs.Spell.{Opening};
 ghost use Rattle.spelling.specs.Write.{enclosed};
 ghost use Rattle.cola_b.specs.Envelope.{alike, checksum, open_binary, wrap_binary};
 
-use crate::items::{four, four_bytes};
-use spelling::put::put_bytes;
+use crate::items::four;
 use spelling::terms::Extent;
 use telegram::refusal::{Reason, Refusal};
 
@@ -72,9 +71,9 @@ pub(crate) fn put_envelope(out: &mut [u8], to: usize)
     ensures { out.new ≡ enclosed wrap_binary out.old to }
 {
     let body = body_in(out, to);
-    let length = four_bytes(body.len() as u32);
+    let length = body.len() as u32;
     let sum = checksum(body);
-    let at = put_bytes(out, 0, &HEADER);
-    put_bytes(out, at, &length);
-    put_bytes(out, to, &[sum]);
+    out[..HEADER.len()].copy_from_slice(&HEADER);
+    out[HEADER.len()..FRONT].copy_from_slice(&length.to_be_bytes());
+    out[to] = sum;
 }

@@ -4,12 +4,12 @@ ghost use Rattle.telegram.specs.Kind.{bytes as width, patterns};
 ghost use Rattle.spelling.specs.Spell.{Finds, blanked};
 ghost use Rattle.telegram.specs.Value.{value_of};
 ghost use Rattle.spelling.specs.Canon.{fixed};
-ghost use Rattle.spelling.specs.Write.{Put};
+ghost use Rattle.spelling.specs.Output.{HasRoom, Puts};
 ghost use Rattle.cola_b.specs.Canon.{octets, canon_binary};
 ghost use Rattle.cola_b.specs.Items.{front, number_in, real_in, bare};
 
 use spelling::blank::behind_blank;
-use spelling::put::{put_blank, put_bytes};
+use spelling::put::Output;
 use spelling::text::text_of;
 use telegram::item::{Item, Want};
 use telegram::kind::Kind;
@@ -79,49 +79,34 @@ pub(crate) fn blanked_of<'b>(want: Want, bytes: &'b [u8]) -> Result<(Item<'b>, u
     behind_blank(bytes, |behind| item_of(want, behind))
 }
 
-// The four bytes of a number, the highest first.
-pub(crate) fn four_bytes(v: u32) -> [u8; 4]
-    ensures { result ≡ fixed 256 4 v }
+// Writes the lowest bytes of a number, the highest of them first.
+fn put_number(width: usize, v: u32, out: &mut Output<'_>)
+    requires few { width ≤ 4 }
+    requires room { HasRoom out.old width }
+    ensures { Puts out.old (fixed 256 width v) out.new }
 {
-    [
-        (v / 0x100 / 0x100 / 0x100 % 0x100) as u8,
-        (v / 0x100 / 0x100 % 0x100) as u8,
-        (v / 0x100 % 0x100) as u8,
-        (v % 0x100) as u8,
-    ]
+    out.put(&v.to_be_bytes()[4 - width..]);
 }
 
-// Writes a number in the width of its kind, and answers the place behind it.
-fn put_number(kind: Kind, v: u32, out: &mut [u8], at: usize) -> usize
-    requires { at + width kind ≤ length out.old }
-    ensures { Put out.old at (fixed 256 (width kind) v) out.new result }
-{
-    match kind {
-        Kind::Bool | Kind::Uint8 | Kind::Int8 => put_bytes(out, at, &[(v % 0x100) as u8]),
-        Kind::Uint16 => put_bytes(out, at, &[(v / 0x100 % 0x100) as u8, (v % 0x100) as u8]),
-        Kind::Uint32 | Kind::Int32 => put_bytes(out, at, &four_bytes(v)),
-    }
-}
-
-// Writes an item with no blank before it, and answers the place behind it.
-pub(crate) fn put_bare(item: Item<'_>, out: &mut [u8], at: usize) -> usize
-    requires { at + length (octets (value_of item)) ≤ length out.old }
-    ensures { Put out.old at (octets (value_of item.entry)) out.new result }
+// Writes an item with no blank before it.
+pub(crate) fn put_bare(item: Item<'_>, out: &mut Output<'_>)
+    requires { HasRoom out.old (length (octets (value_of item))) }
+    ensures { Puts out.old (octets (value_of item.entry)) out.new }
 {
     match item {
-        Item::Number(kind, v) => put_number(kind, v, out, at),
-        Item::Real(v) => put_bytes(out, at, &four_bytes(v)),
-        Item::Text(s) => put_bytes(out, at, s),
+        Item::Number(kind, v) => put_number(kind.width(), v, out),
+        Item::Real(v) => put_number(4, v, out),
+        Item::Text(s) => out.put(s),
     }
 }
 
-// Writes an item behind a blank, and answers the place behind it.
-pub(crate) fn put_blanked(item: Item<'_>, out: &mut [u8], at: usize) -> usize
-    requires { at + (1 + length (octets (value_of item))) ≤ length out.old }
-    ensures { Put out.old at (32 ∷ octets (value_of item.entry)) out.new result }
+// Writes an item behind a blank.
+pub(crate) fn put_blanked(item: Item<'_>, out: &mut Output<'_>)
+    requires { HasRoom out.old (1 + length (octets (value_of item))) }
+    ensures { Puts out.old (32 ∷ octets (value_of item.entry)) out.new }
 {
-    let at = put_blank(out, at);
-    put_bare(item, out, at)
+    out.put_blank();
+    put_bare(item, out);
 }
 
 // How many bytes an item takes with no blank before it.

@@ -9,6 +9,7 @@ ghost use Rattle.cola_b.specs.Wraps.{binary_slim, binary_parted, binary_snug, bi
 
 use crate::envelope::{FRONT, put_envelope};
 use crate::items::{blanked_of, item_of, item_size, put_bare, put_blanked};
+use spelling::put::Output;
 use spelling::terms::{Extent, FullSpelling, Spelling};
 use telegram::item::{Item, Want};
 use telegram::refusal::{Fault, Refusal};
@@ -65,11 +66,11 @@ impl FullSpelling for Octets {
         item_size(first, item)
     }
 
-    fn put(first: bool, item: Item<'_>, out: &mut [u8], at: usize) -> usize {
+    fn put(first: bool, item: Item<'_>, out: &mut Output<'_>) {
         if first {
-            put_blanked(item, out, at)
+            put_blanked(item, out)
         } else {
-            put_bare(item, out, at)
+            put_bare(item, out)
         }
     }
 

@@ -5,7 +5,7 @@ ghost use Rattle.layout.specs.Source.{seen_of};
 ghost use Rattle.cola_a.specs.Canon.{letters};
 ghost use Rattle.page.specs.Page.{kind_name, value_name, line};
 
-use cola_a::canon::{digit_count, put_digits};
+use cola_a::canon::{digit_count, write_digits};
 use std::alloc::{AllocError, Global};
 use telegram::item::{Item, Placed};
 use telegram::kind::Kind;
@@ -42,9 +42,9 @@ pub fn put_value(out: &mut Vec<u8>, item: Item<'_>) -> Result<(), AllocError>
     match item {
         Item::Number(_, value) | Item::Real(value) => {
             let mut digits = [b'0'; 8];
-            let n = digit_count(item);
-            let end = put_digits(n, value, &mut digits, 0);
-            out.extend_from_slice(&digits[0..end])
+            let digits = &mut digits[..digit_count(item)];
+            write_digits(digits, value);
+            out.extend_from_slice(digits)
         }
         Item::Text(text) => out.extend_from_slice(text),
     }

@@ -4,7 +4,6 @@ ghost use Rattle.spelling.specs.Spell.{Opening};
 ghost use Rattle.spelling.specs.Write.{enclosed};
 ghost use Rattle.prefixed.specs.Envelope.{open_prefixed, wrap_prefixed};
 
-use spelling::put::put_bytes;
 use spelling::terms::Extent;
 use telegram::refusal::{Reason, Refusal};
 
@@ -35,10 +34,6 @@ pub(crate) fn put_length(out: &mut [u8], to: usize)
     requires short { to ≤ 65536 }
     ensures { out.new ≡ enclosed wrap_prefixed out.old to }
 {
-    let length = to - FRONT;
-    put_bytes(
-        out,
-        0,
-        &[(length / 0x100 % 0x100) as u8, (length % 0x100) as u8],
-    );
+    let length = (to - FRONT) as u16;
+    out[..FRONT].copy_from_slice(&length.to_be_bytes());
 }

@@ -11,6 +11,7 @@ ghost use Rattle.cola_b.specs.Wraps.{binary_slim, binary_parted};
 use crate::envelope::{FRONT, open, put_length};
 use cola_b::octets::Octets;
 use framed::framed::Framed;
+use spelling::put::Output;
 use spelling::terms::{Extent, FullSpelling, Spelling};
 use telegram::item::{Item, Want};
 use telegram::refusal::{Fault, Refusal};
@@ -63,8 +64,8 @@ impl FullSpelling for Prefixed {
         Octets::size(first, item)
     }
 
-    fn put(first: bool, item: Item<'_>, out: &mut [u8], at: usize) -> usize {
-        Octets::put(first, item, out, at)
+    fn put(first: bool, item: Item<'_>, out: &mut Output<'_>) {
+        Octets::put(first, item, out)
     }
 
     fn margins() -> (usize, usize) {

@@ -1,8 +1,8 @@
 -- One write after another. Assumes nothing.
-use Rattle.std.proofs.Common.{◌≡◌, ℕ, ◌+◌, ◌-◌, ◌≤◌, List, [], ◌++◌, length, take, drop, sym, refl, ap, subst, ◌∙◌, append_assoc, append-nil, arith, length-append, take-append-drop, drop-drop, take-add}
+use Rattle.std.proofs.Common.{◌≡◌, ℕ, ◌+◌, ◌-◌, ◌<◌, ◌≤◌, List, [], ◌∷◌, ◌++◌, slice_set, length, take, drop, sym, refl, ap, ◌∙◌, append_assoc, append-nil, arith, length-append, take-append-drop, drop-drop, take-add}
 use borrow.Rule.Slice.PartMut.{put_mid}
 use Rattle.std.proofs.lemmas.Slice.{take-put_mid, drop-put_mid}
-use Rattle.std.proofs.lemmas.List.{take_at, drop_at, length-take, length-drop, drop-take}
+use Rattle.std.proofs.lemmas.List.{take-set, drop-set, take_at, drop_at, length-take, length-drop, drop-take}
 use Rattle.spelling.specs.declared.put.Output.{Output}
 use Rattle.spelling.specs.Write.{Wrap, Snug, Put, enclosed, wrapped}
 use Rattle.spelling.specs.Output.{HasRoom, Puts}
@@ -44,9 +44,6 @@ put_long {old} {new} {w} {p} {r} h room =
 pub puts_puts : {old mid new : Output} {v w : List ℕ} → Puts old v mid → Puts mid w new → Puts old (v ++ w) new
 puts_puts {old} {mid} {new} {v} {w} a b = record { same = b.same ∙ a.same; put = put_put v w a.put b.put }
 
-pub puts_nothing : (out : Output) → Puts out [] out
-puts_nothing out = record { same = refl; put = put_nothing out.bytes.now out.at }
-
 -- what is left of an output's room
 pub puts_room : {old new : Output} {w : List ℕ} (n : ℕ) → Puts old w new → HasRoom old (length w + n) → HasRoom new n
 puts_room {old} {new} {w} n p h = omega (arith, p.put.at, put_long p.put (omega arith), h)
@@ -61,6 +58,12 @@ put_is old new w p n e room is =
       done = ap (take (p + n)) whole ∙ take_at (take p old ++ w) (drop (p + n) old) (p + n) long;
       rest = ap (drop (p + n)) whole ∙ drop_at (take p old ++ w) (drop (p + n) old) (p + n) long;
     }
+
+-- one byte of out is written over
+pub put_one : (out : List ℕ) (p c : ℕ) → p < length out → Put out p (c ∷ []) (slice_set out p c) (p + 1)
+put_one out p c h =
+    put_is out (slice_set out p c) (c ∷ []) p 1 refl (omega arith)
+    (sym (take-append-drop p (slice_set out p c)) ∙ ap (λ l. l ++ drop p (slice_set out p c)) (take-set out p c) ∙ ap (λ l. take p out ++ l) (drop-set out p c h))
 
 -- an envelope written around what stands between its two parts
 module _ (w : Wrap) (old mid new : List ℕ) (to q r : ℕ) (le : w.before ≤ to) where

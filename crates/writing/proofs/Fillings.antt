@@ -1,18 +1,15 @@
 -- Writing items one after the other. Assumes nothing.
 use Rattle.std.proofs.Common.{◌≡◌, ℕ, zero, suc, ◌+◌, ◌<◌, ◌≤◌, Bool, true, false, ◌&&◌, eqb, List, [], ◌∷◌, ◌++◌, map, length, get_or, take, drop, sym, refl, ap, subst, ◌∙◌, append_assoc, append-nil, arith, length-append}
-use Rattle.std.proofs.lemmas.List.{drop_more, drop-map, drop_all}
+use Rattle.std.proofs.lemmas.List.{drop_more, drop-map}
 use Rattle.std.proofs.lemmas.Bool.{ne_eqb}
 use Rattle.telegram.specs.Value.{Value}
 use Rattle.spelling.specs.Canon.{Canon, written}
 use Rattle.spelling.specs.declared.put.Output.{Output}
 use Rattle.spelling.specs.Output.{HasRoom, Puts}
-use Rattle.spelling.proofs.Puts.{puts_puts, puts_nothing, puts_room}
+use Rattle.spelling.proofs.Puts.{puts_puts, puts_room}
 
 pub one : {X Y : Type 0} (f : X → Y) (xs : List X) (i : ℕ) (d : X) → i < length xs → drop i (map f xs) ≡ f (get_or xs i d) ∷ drop (i + 1) (map f xs)
 one f xs i d h = drop-map f i xs ∙ ap (map f) (drop_more xs i d h) ∙ ap (λ l. f (get_or xs i d) ∷ l) (sym (drop-map f (i + 1) xs))
-
-pub none : {X Y : Type 0} (f : X → Y) (xs : List X) (i : ℕ) → length xs ≤ i → drop i (map f xs) ≡ []
-none f xs i h = drop-map f i xs ∙ ap (map f) (drop_all i xs h)
 
 -- items behind others
 pub written_join : (canon : Canon) (first : Bool) (v : Value) (vs ws : List Value) → written canon first ((v ∷ vs) ++ ws) ≡ written canon first (v ∷ vs) ++ written canon false ws
@@ -41,9 +38,6 @@ pub record Filling (canon : Canon) (all : List ℕ) (first : Bool) (left : List 
 
 pub filling_as : {canon : Canon} {all : List ℕ} {a b : Bool} {left : List Value} {old out : Output} → a ≡ b → Filling canon all a left old out → Filling canon all b left old out
 filling_as {canon} {all} {a} {b} {left} {old} {out} e f = subst (λ x. Filling canon all x left old out) e f
-
-pub filling_none : (canon : Canon) (first : Bool) (left : List Value) (out : Output) → Filling canon (written canon first left) first left out out
-filling_none canon first left out = record { done = []; puts = puts_nothing out; whole = refl }
 
 module _ (canon : Canon) (all : List ℕ) (first : Bool) (left after : List Value) (v : Value) (old out : Output) (f : Filling canon all first left old out) (e : left ≡ v ∷ after) where
   split : all ≡ (f.done ++ canon first v) ++ written canon false after

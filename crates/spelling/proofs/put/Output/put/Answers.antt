@@ -1,4 +1,4 @@
-use Rattle.std.proofs.Common.{refl, arith}
+use Rattle.std.proofs.Common.{refl}
 use Rattle.spelling.proofs.Puts.{put_mid_lem}
 use Rattle.spelling.proofs.put.Output.put.Goals as goal
 
