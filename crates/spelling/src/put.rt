@@ -1,5 +1,6 @@
 // An output on which telegrams are written.
-ghost use Rattle.std.specs.Prelude.{[], ◌∷◌, length};
+ghost use Rattle.std.specs.Prelude.{◌+◌, ◌≤◌, [], ◌∷◌, length};
+ghost use Rattle.spelling.specs.Write.{Put};
 ghost use Rattle.spelling.specs.Output.{HasRoom, Puts};
 
 // Bytes to be written, and the place up to which they are.
@@ -9,15 +10,22 @@ pub struct Output<'o> {
     pub at: usize,
 }
 
+// Copies bytes to a place.
+fn copy_to(out: &mut [u8], at: usize, bytes: &[u8])
+    requires { at + length bytes.now ≤ length out.old }
+    ensures { Put out.old at bytes.now out.new (at + length bytes.now) }
+{
+    out[at..at + bytes.len()].copy_from_slice(bytes);
+}
+
 impl Output<'_> {
     // Writes bytes.
     pub fn put(&mut self, bytes: &[u8])
         requires { HasRoom self.old (length bytes.now) }
         ensures { Puts self.old bytes.now self.new }
     {
-        let end = self.at + bytes.len();
-        self.bytes[self.at..end].copy_from_slice(bytes);
-        self.at = end;
+        copy_to(self.bytes, self.at, bytes);
+        self.at += bytes.len();
     }
 
     // Writes a blank.
