@@ -11,8 +11,8 @@ use crate::read::read;
 use framing::framing::{Framing, FullFraming, Meaning};
 use framing::head::Head;
 use layout::cursor::Cursor;
-use layout::records::Parts;
 use layout::source::Source;
+use layout::telling::Telling;
 use spelling::terms::{FullSpelling, Spelling};
 use spelling::walk::next;
 use telegram::item::{Item, Placed};
@@ -62,12 +62,7 @@ impl<S: FullSpelling> FullFraming for Framed<S> {
         writing::write::length::<S, T>(telegram)
     }
 
-    fn write<T: Source>(
-        &self,
-        telegram: &T,
-        parts: Parts<'_>,
-        out: &mut [u8],
-    ) -> Result<usize, Refusal> {
-        writing::write::write::<S, T>(telegram, parts, out)
+    fn write<T: Source>(&self, telling: &Telling<'_, T>, out: &mut [u8]) -> Result<usize, Refusal> {
+        writing::write::write::<S, T>(telling, out)
     }
 }

@@ -4,8 +4,8 @@ ghost use Rattle.framing.specs.declared.choice.Choice.TheVariants.{First, Second
 use crate::framing::{Framing, FullFraming, Meaning};
 use crate::head::Head;
 use layout::cursor::Cursor;
-use layout::records::Parts;
 use layout::source::Source;
+use layout::telling::Telling;
 use telegram::item::{Item, Placed};
 use telegram::refusal::Refusal;
 
@@ -62,15 +62,10 @@ impl<F: FullFraming, G: FullFraming> FullFraming for Choice<F, G> {
         }
     }
 
-    fn write<T: Source>(
-        &self,
-        telegram: &T,
-        parts: Parts<'_>,
-        out: &mut [u8],
-    ) -> Result<usize, Refusal> {
+    fn write<T: Source>(&self, telling: &Telling<'_, T>, out: &mut [u8]) -> Result<usize, Refusal> {
         match self {
-            Choice::First(framing) => framing.write(telegram, parts, out),
-            Choice::Second(framing) => framing.write(telegram, parts, out),
+            Choice::First(framing) => framing.write(telling, out),
+            Choice::Second(framing) => framing.write(telling, out),
         }
     }
 }

@@ -1,14 +1,14 @@
 // The terms of a framing: what bytes mean in it and how a telegram is spelt in it, with what every framing keeps to; the calls that read and the calls that write.
 ghost use Rattle.std.specs.Prelude.{◌≡◌, ℕ, List, length};
 ghost use Rattle.layout.specs.declared.cursor.Cursor.{Cursor as At};
-ghost use Rattle.layout.specs.Source.{Telegram, Within, Seen, Pulled, Told};
+ghost use Rattle.layout.specs.Source.{Telegram, Within, Seen, Pulled};
 ghost use Rattle.spelling.specs.Write.{Wrote};
 ghost use Rattle.framing.specs.Read.{Outcome, Keeps, Means, Verbatim, Reads};
 
 use crate::head::Head;
 use layout::cursor::Cursor;
-use layout::records::Parts;
 use layout::source::Source;
+use layout::telling::Telling;
 use telegram::item::{Item, Placed};
 use telegram::refusal::Refusal;
 
@@ -43,15 +43,8 @@ pub trait FullFraming: Framing {
         ensures { result ≡ length (spells self.now (T.Source.telegram telegram.now)) };
 
     // Writes the canonical spelling of a telegram, whose optional parts are given as records.
-    fn write<T: Source>(
-        &self,
-        telegram: &T,
-        parts: Parts<'_>,
-        out: &mut [u8],
-    ) -> Result<usize, Refusal>
-        requires within { Within (T.Source.telegram telegram.now) }
-        requires told { Told (T.Source.telegram telegram.now) parts }
-        ensures { Wrote (spells self.now (T.Source.telegram telegram.now)) out.old out.new result };
+    fn write<T: Source>(&self, telling: &Telling<'_, T>, out: &mut [u8]) -> Result<usize, Refusal>
+        ensures { Wrote (spells self.now (T.Source.telegram telling.now.telegram.now)) out.old out.new result };
 
     // The canonical spelling of every telegram within the catalogue and the limits is accepted, and means that telegram.
     ghost back: { (f : Self) (t : Telegram) → Within t → Means t (Self.Meaning.reads f (spells f t)) };

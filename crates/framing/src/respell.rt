@@ -4,6 +4,7 @@ ghost use Rattle.framing.specs.Respell.{answer_of, respelt, OneSpelling};
 
 use crate::accepted::accept;
 use crate::framing::{Framing, FullFraming};
+use layout::telling::Telling;
 use telegram::refusal::Refusal;
 
 // Answers the length of what was written at the output's start. After a refusal the output is as it was.
@@ -17,5 +18,6 @@ pub fn respell<F: Framing, G: FullFraming>(
     ensures unique { OneSpelling (G.Meaning.reads to.now) (G.FullFraming.spells to.now) }
 {
     let telegram = accept(from, bytes)?;
-    to.write(&telegram, telegram.parts(), out)
+    let telling = Telling::new(&telegram, telegram.parts());
+    to.write(&telling, out)
 }

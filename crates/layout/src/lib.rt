@@ -7,3 +7,4 @@ pub mod progress;
 pub mod records;
 pub mod source;
 pub mod stage;
+pub mod telling;

@@ -1,17 +1,16 @@
 // A whole telegram: its length, and its canonical spelling.
 ghost use Rattle.std.specs.Prelude.{◌≡◌, ℕ, ◌+◌, ◌≤◌, Bool, true, List, ◌∷◌, ◌++◌, length, take, drop};
 ghost use Rattle.telegram.specs.Catalogue.{command, name};
-ghost use Rattle.layout.specs.Source.{Within, Told, values};
+ghost use Rattle.layout.specs.Source.{Within, values};
 ghost use Rattle.spelling.specs.Canon.{written};
 ghost use Rattle.spelling.specs.Write.{Wrote, body_of, spelled};
 ghost use Rattle.spelling.specs.Output.{HasRoom, Puts};
-ghost use Rattle.writing.specs.Parts.{Labelled};
 ghost use Rattle.writing.specs.Room.{Fits};
 
 use crate::parts::{count, put_parts};
 use layout::parts::is_scan;
-use layout::records::Parts;
 use layout::source::{Items, Source};
+use layout::telling::Telling;
 use spelling::put::Output;
 use spelling::terms::{FullSpelling, Spelling};
 use telegram::refusal::{Reason, Refusal};
@@ -62,17 +61,16 @@ fn put_items<S: FullSpelling, T: Source>(telegram: &T, n: usize, out: &mut Outpu
 
 // Writes the head and the items of a telegram.
 fn put_body<S: FullSpelling, T: Source>(
-    telegram: &T,
-    parts: Parts<'_>,
+    telling: &Telling<'_, T>,
     items: usize,
     out: &mut Output<'_>,
 )
-    requires counted { items ≡ length (T.Source.telegram telegram.now).items }
-    requires told { Told (T.Source.telegram telegram.now) parts }
-    requires labelled { Labelled parts }
-    requires room { HasRoom out.old (length (body_of S.Spelling.canon (T.Source.telegram telegram.now))) }
-    ensures { Puts out.old (body_of S.Spelling.canon (T.Source.telegram telegram.now)) out.new }
+    requires counted { items ≡ length (T.Source.telegram telling.now.telegram.now).items }
+    requires room { HasRoom out.old (length (body_of S.Spelling.canon (T.Source.telegram telling.now.telegram.now))) }
+    ensures { Puts out.old (body_of S.Spelling.canon (T.Source.telegram telling.now.telegram.now)) out.new }
 {
+    let telegram = telling.telegram;
+    let parts = telling.parts;
     let row = telegram.row();
     put_head(row, out);
     if is_scan(row) {
@@ -95,7 +93,7 @@ fn whole_length<S: FullSpelling>(row: Row, bytes: usize) -> usize
 
 // How many items a telegram has, and how long its canonical spelling is.
 fn gauge_whole<S: FullSpelling, T: Source>(telegram: &T) -> Measure
-    requires { Within (T.Source.telegram telegram.now) }
+    requires { ∥ Within (T.Source.telegram telegram.now) ∥₁ }
     ensures items { result.items ≡ length (T.Source.telegram telegram.now).items }
     ensures bytes { result.bytes ≡ length (spelled S.Spelling.canon S.FullSpelling.wrap (T.Source.telegram telegram.now)) }
 {
@@ -128,44 +126,30 @@ fn fits(out: &[u8], bytes: usize) -> Result<(), Refusal>
 }
 
 // Writes the canonical spelling of a telegram that has so many items.
-fn put_whole<S: FullSpelling, T: Source>(
-    telegram: &T,
-    parts: Parts<'_>,
-    items: usize,
-    out: &mut [u8],
-)
-    requires within { Within (T.Source.telegram telegram.now) }
-    requires told { Told (T.Source.telegram telegram.now) parts }
-    requires counted { items ≡ length (T.Source.telegram telegram.now).items }
-    requires room { length (spelled S.Spelling.canon S.FullSpelling.wrap (T.Source.telegram telegram.now)) ≤ length out.old }
-    ensures { out.new ≡ spelled S.Spelling.canon S.FullSpelling.wrap (T.Source.telegram telegram.now) ++ drop (length (spelled S.Spelling.canon S.FullSpelling.wrap (T.Source.telegram telegram.now))) out.old }
+fn put_whole<S: FullSpelling, T: Source>(telling: &Telling<'_, T>, items: usize, out: &mut [u8])
+    requires counted { items ≡ length (T.Source.telegram telling.now.telegram.now).items }
+    requires room { length (spelled S.Spelling.canon S.FullSpelling.wrap (T.Source.telegram telling.now.telegram.now)) ≤ length out.old }
+    ensures { out.new ≡ spelled S.Spelling.canon S.FullSpelling.wrap (T.Source.telegram telling.now.telegram.now) ++ drop (length (spelled S.Spelling.canon S.FullSpelling.wrap (T.Source.telegram telling.now.telegram.now))) out.old }
 {
     let (before, _) = S::margins();
     let mut body = Output {
         bytes: &mut *out,
         at: before,
     };
-    put_body::<S, T>(telegram, parts, items, &mut body);
+    put_body::<S, T>(telling, items, &mut body);
     let end = body.at;
     S::enclose(out, end);
 }
 
 // Writes the canonical spelling of a telegram at the output's start, unless the output is too short.
 pub fn write<S: FullSpelling, T: Source>(
-    telegram: &T,
-    parts: Parts<'_>,
+    telling: &Telling<'_, T>,
     out: &mut [u8],
 ) -> Result<usize, Refusal>
-    requires within { Within (T.Source.telegram telegram.now) }
-    requires told { Told (T.Source.telegram telegram.now) parts }
-    ensures { Wrote (spelled S.Spelling.canon S.FullSpelling.wrap (T.Source.telegram telegram.now)) out.old out.new result }
+    ensures { Wrote (spelled S.Spelling.canon S.FullSpelling.wrap (T.Source.telegram telling.now.telegram.now)) out.old out.new result }
 {
-    let Measure { items, bytes } = gauge_whole::<S, T>(telegram);
-    match fits(out, bytes) {
-        Ok(()) => {
-            put_whole::<S, T>(telegram, parts, items, out);
-            Ok(bytes)
-        }
-        Err(refusal) => Err(refusal),
-    }
+    let Measure { items, bytes } = gauge_whole::<S, T>(telling.telegram);
+    fits(out, bytes)?;
+    put_whole::<S, T>(telling, items, out);
+    Ok(bytes)
 }
