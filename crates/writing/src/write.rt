@@ -117,10 +117,7 @@ fn fits(out: &[u8], bytes: usize) -> Result<(), Refusal>
     ensures { Fits (length out.now) bytes result }
 {
     if out.len() < bytes {
-        return Err(Refusal {
-            reason: Reason::Room,
-            place: bytes,
-        });
+        return Err(Reason::Room.at(bytes));
     }
     Ok(())
 }
