@@ -16,10 +16,6 @@ pub type ColaA = Framed<Letters>;
 
 pub const COLA_A: ColaA = Framed { spelling: Letters };
 
-pub fn cola_a() -> ColaA {
-    Framed::new(Letters)
-}
-
 // What bytes come to.
 pub fn read<'b>(bytes: &'b [u8]) -> Result<Head<'b>, Refusal>
     ensures answer { Reads (left find_text) bytes.now (reads_text bytes.now) result }

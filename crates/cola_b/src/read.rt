@@ -16,10 +16,6 @@ pub type ColaB = Framed<Octets>;
 
 pub const COLA_B: ColaB = Framed { spelling: Octets };
 
-pub fn cola_b() -> ColaB {
-    Framed::new(Octets)
-}
-
 // What bytes come to, and what any one of them changed alone comes to.
 fn read_guarded<'b>(bytes: &'b [u8]) -> Result<Head<'b>, Refusal>
     ensures answer { Reads (left find_binary) bytes.now (reads_binary bytes.now) result }

@@ -6,7 +6,7 @@ ghost use Rattle.cola_a.specs.Canon.{letters};
 ghost use Rattle.page.specs.Page.{kind_name, value_name, line};
 
 use cola_a::canon::{digit_count, write_digits};
-use std::alloc::{AllocError, Global};
+use std::alloc::AllocError;
 use telegram::item::{Item, Placed};
 use telegram::kind::Kind;
 
@@ -51,16 +51,12 @@ pub fn put_value(out: &mut Vec<u8>, item: Item<'_>) -> Result<(), AllocError>
 }
 
 // Adds the line of an item.
-pub(crate) fn put_line(
-    heap: Global,
-    out: &mut Vec<u8>,
-    item: Placed<Item<'_>>,
-) -> Result<(), AllocError>
+pub(crate) fn put_line(out: &mut Vec<u8>, item: Placed<Item<'_>>) -> Result<(), AllocError>
     ensures { OnOk result (out.new.items ≡ out.old.items ++ line (seen_of item.entry)) }
 {
     let name = item_name(item.value);
     let place = item.place;
-    let front = format!(in heap; "{name} {place} ")?;
+    let front = format!(in *out.allocator(); "{name} {place} ")?;
     out.extend_from_slice(front.as_bytes())?;
     put_value(out, item.value)?;
     out.push(b'\n')?;

@@ -26,43 +26,38 @@ fn put_pair(out: &mut Vec<u8>, first: &[u8], second: &[u8]) -> Result<(), AllocE
 }
 
 // Adds a telegram's type and name.
-fn put_title(out: &mut Vec<u8>, row: Row) -> Result<(), AllocError>
+pub fn put_title(out: &mut Vec<u8>, row: Row) -> Result<(), AllocError>
     ensures { OnOk result (out.new.items ≡ out.old.items ++ title row) }
 {
     put_pair(out, row.command(), row.name())
 }
 
 // Adds a line for each item.
-fn put_items<F: Framing>(
-    heap: Global,
-    out: &mut Vec<u8>,
-    items: Items<'_, '_, F>,
-) -> Result<(), AllocError>
+fn put_items<F: Framing>(out: &mut Vec<u8>, items: Items<'_, '_, F>) -> Result<(), AllocError>
     ensures { OnOk result (out.new.items ≡ out.old.items ++ lines (rest F.Meaning.left items.entry)) }
 {
     for item in items {
-        put_line(heap, out, item)?;
+        put_line(out, item)?;
     }
     Ok(())
 }
 
 // Adds the sheet of a telegram that is accepted.
 fn put_telegram<F: Framing>(
-    heap: Global,
     out: &mut Vec<u8>,
     telegram: &Accepted<'_, '_, F>,
 ) -> Result<(), AllocError>
     ensures { OnOk result (out.new.items ≡ out.old.items ++ (title telegram.now.head.row ++ lines (items_of F.Meaning.left telegram.now))) }
 {
     put_title(out, telegram.row())?;
-    put_items(heap, out, telegram.items())
+    put_items(out, telegram.items())
 }
 
 // Adds the line of a refusal.
-fn put_refusal(heap: Global, out: &mut Vec<u8>, why: Refusal) -> Result<(), AllocError>
+fn put_refusal(out: &mut Vec<u8>, why: Refusal) -> Result<(), AllocError>
     ensures { OnOk result (out.new.items ≡ out.old.items ++ refusal (reason_number why.reason) why.place) }
 {
-    let line = format!(in heap; "{why}\n")?;
+    let line = format!(in *out.allocator(); "{why}\n")?;
     out.extend_from_slice(line.as_bytes())
 }
 
@@ -72,8 +67,8 @@ pub fn sheet_in<F: Framing>(heap: Global, framing: &F, bytes: &[u8]) -> Result<V
 {
     let mut out = Vec::new(heap);
     match accept(framing, bytes) {
-        Ok(telegram) => put_telegram(heap, &mut out, &telegram)?,
-        Err(why) => put_refusal(heap, &mut out, why)?,
+        Ok(telegram) => put_telegram(&mut out, &telegram)?,
+        Err(why) => put_refusal(&mut out, why)?,
     }
     Ok(out)
 }
