@@ -10,7 +10,7 @@ use telegram::item::Item;
 // How many digits a Real has.
 const REAL_DIGITS: usize = 8;
 
-// The capital hexadecimal digit of a number.
+// The capital hexadecimal digit of a number; std's `from_digit` writes small letters.
 fn letter_of(d: u32) -> u8
     requires { d < 16 }
     ensures { result ≡ letter d }
@@ -55,6 +55,7 @@ pub fn write_digits(digits: &mut [u8], value: u32)
     ensures { digits.new ≡ hexadecimals (length digits.old) value }
 {
     let mut rest = value;
+    // By index: what is written through `iter_mut` is not known afterwards.
     for i in (0..digits.len()).rev() {
         digits[i] = letter_of(rest % 16);
         rest /= 16;

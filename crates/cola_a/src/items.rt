@@ -75,7 +75,7 @@ impl Sign {
     }
 }
 
-// A number in hexadecimal, by the pattern of its full width.
+// A number in hexadecimal, by the pattern of its full width. The casts here and below are shown to fit; a `try_from` would have an error that cannot come.
 fn plain<'b>(kind: Kind, bytes: &'b [u8]) -> Result<(Item<'b>, usize), Fault>
     ensures { Finds bytes.now (hexadecimal kind (run 16 (2 * width kind) 0 0 bytes.now)) result }
 {

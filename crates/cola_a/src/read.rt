@@ -16,7 +16,7 @@ pub type ColaA = Framed<Letters>;
 
 pub const COLA_A: ColaA = Framed { spelling: Letters };
 
-// What bytes come to.
+// What bytes come to. Binary has a call of its own too: each promises by its framing's own definitions, and binary's promises more.
 pub fn read<'b>(bytes: &'b [u8]) -> Result<Head<'b>, Refusal>
     ensures answer { Reads (left find_text) bytes.now (reads_text bytes.now) result }
     ensures keeps { Keeps bytes.now (reads_text bytes.now) }

@@ -41,6 +41,7 @@ pub fn open(input: &[u8]) -> Result<Extent, Refusal>
         return Err(Reason::Envelope.at(place));
     }
     let end = len - 1;
+    // 32 bits always fit, and `usize` has no `From` for them.
     match four(&input[HEADER.len()..]) {
         Some(stated) if stated as usize == end - FRONT => {}
         _ => return Err(Reason::Envelope.at(HEADER.len())),
@@ -71,6 +72,7 @@ pub(crate) fn put_envelope(out: &mut [u8], to: usize)
     ensures { out.new ≡ enclosed wrap_binary out.old to }
 {
     let body = body_in(out, to);
+    // Shown to fit: a body is no longer than an input may be.
     let length = body.len() as u32;
     let sum = checksum(body);
     out[..HEADER.len()].copy_from_slice(&HEADER);

@@ -100,7 +100,7 @@ pub(crate) fn put_bare(item: Item<'_>, out: &mut Output<'_>)
     }
 }
 
-// Writes an item behind a blank.
+// Writes an item behind a blank. Two calls, of which the second is this spelling's own: one text for all spellings would be no shorter.
 pub(crate) fn put_blanked(item: Item<'_>, out: &mut Output<'_>)
     requires { HasRoom out.old (1 + length (octets (value_of item))) }
     ensures { Puts out.old (32 ∷ octets (value_of item.entry)) out.new }

@@ -1,4 +1,4 @@
-// A choice of two framings, which is a framing.
+// A choice of two framings, which is a framing. Each call asks the one that was chosen, by a match: a `dyn` would need a heap or a borrow, and says no less.
 ghost use Rattle.framing.specs.declared.choice.Choice.TheVariants.{First, Second};
 
 use crate::framing::{Framing, FullFraming, Meaning};

@@ -37,7 +37,7 @@ pub trait FullFraming: Framing {
     // The one spelling of a telegram that is written.
     ghost spells: { Self → Telegram → List ℕ };
 
-    // How long the canonical spelling of a telegram is.
+    // How long the canonical spelling of a telegram is. It takes no records, so it asks for the telegram alone and for the fact about it.
     fn length<T: Source>(&self, telegram: &T) -> usize
         requires { Within (T.Source.telegram telegram.now) }
         ensures { result ≡ length (spells self.now (T.Source.telegram telegram.now)) };

@@ -6,7 +6,7 @@ ghost use Rattle.notation.specs.Notation.{digit, decoded};
 
 use std::alloc::{AllocError, Global};
 
-// The value of a hexadecimal digit; any other character counts as 0.
+// The value of a hexadecimal digit; any other character counts as 0. std's `to_digit` takes small letters too.
 fn digit(character: u8) -> u8
     ensures value { result ≡ digit character }
     ensures small { result < 16 }

@@ -10,7 +10,7 @@ use std::alloc::AllocError;
 use telegram::item::{Item, Placed};
 use telegram::kind::Kind;
 
-// The name of a kind of numbers.
+// The name of a kind of numbers. It is lent as it stands: a `Display` would write it anew, and an item, which is more than its kind, has none.
 pub fn kind_name(kind: Kind) -> &'static str
     ensures { result.now ≡ kind_name kind }
 {
@@ -41,6 +41,7 @@ pub fn put_value(out: &mut Vec<u8>, item: Item<'_>) -> Result<(), AllocError>
 {
     match item {
         Item::Number(_, value) | Item::Real(value) => {
+            // No number has more digits; a part of the buffer is all that is written.
             let mut digits = [b'0'; 8];
             let digits = &mut digits[..digit_count(item)];
             write_digits(digits, value);

@@ -34,6 +34,7 @@ pub(crate) fn put_length(out: &mut [u8], to: usize)
     requires short { to ≤ 65536 }
     ensures { out.new ≡ enclosed wrap_prefixed out.old to }
 {
+    // Shown to fit: a body is shorter than an input may be long.
     let length = (to - FRONT) as u16;
     out[..FRONT].copy_from_slice(&length.to_be_bytes());
 }

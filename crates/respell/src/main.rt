@@ -12,7 +12,7 @@ use telegram::refusal::Refusal;
 
 const USAGE: &str = "usage: respell A|B < TELEGRAM";
 
-// One byte more than is allowed, so that an input that is too long shows as such.
+// One byte more than is allowed, so that an input that is too long shows as such. A constant has no `From`.
 const INPUT: u64 = LONGEST as u64 + 1;
 
 // The framing that the only argument names, if there is just one and it names one. Words are asked for one by one, into a buffer of the length that counts: std's list of them is refused whole where one of them, the program's own name too, is no UTF-8.
@@ -34,6 +34,7 @@ fn run(rt: &HostRuntime, to: &Known) -> anyhow::Result<Result<(), Refusal>> {
     let mut out = vec![in heap; 0; LONGEST]?;
     match respell(&told(telegram), to, telegram, out.as_mut_slice()) {
         Ok(n) => {
+            // Writing `&out[..n]` in its place was tried, and its proof did not close.
             out.truncate(n);
             rt.stdout().write_all(out.as_slice())?;
             Ok(Ok(()))

@@ -36,7 +36,7 @@ pub trait Spelling {
     fn spares_blank() -> bool
         ensures { result ≡ spare };
 
-    // The item that bytes begin with, up to the body's end, and how many of them it takes; `first` says that no item came before.
+    // The item that bytes begin with, up to the body's end, and how many of them it takes; `first` says that no item came before; it is a fact about the place and no value's state, and so a bool.
     fn find<'b>(first: bool, want: Want, bytes: &'b [u8]) -> Result<(Item<'b>, usize), Fault>
         ensures { Finds bytes.now (finds first want bytes.now) result };
 
@@ -67,7 +67,7 @@ pub trait FullSpelling: Spelling {
         ensures before { result.0 ≡ wrap.before }
         ensures after { result.1 ≡ wrap.after };
 
-    // Puts the envelope around a body that ends at a place.
+    // Puts the envelope around a body that ends at a place. An `Output` would not do: it only goes on, and an envelope stands before the body too.
     fn enclose(out: &mut [u8], to: usize)
         requires front { wrap.before ≤ to }
         requires room { to + wrap.after ≤ length out.old }

@@ -78,6 +78,7 @@ fn walk<'b, S: Spelling>(
         progress: Progress::new(row),
     };
     let mut parts = Parts::new();
+    // A `while let` that holds a `?` is a form that no proof is made for.
     loop {
         let Some(want) = at.progress.want() else {
             break;

@@ -12,7 +12,7 @@ const DONE: u8 = 0;
 // The number that refuses an unknown framing. No other refusal has it.
 const UNKNOWN_FRAMING: u8 = 255;
 
-// The number of a refusal, and its place; or 0, and how many items were read or bytes written.
+// The number of a refusal, and its place; or 0, and how many items were read or bytes written. C knows no enum that has a value, so number and place are what it gets.
 #[repr(C)]
 #[derive(Clone, Copy)]
 pub struct Answer {

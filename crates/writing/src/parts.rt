@@ -28,7 +28,7 @@ fn put_all<S: FullSpelling>(first: bool, items: &[Item<'_>], out: &mut Output<'_
     }
 }
 
-// Writes the flag of a position and, where there is one, the position.
+// Writes the flag of a position and, where there is one, the position. The parts differ in what they are made of, so a text for all of them would still list each.
 fn put_position<S: FullSpelling>(first: bool, position: Option<Position>, out: &mut Output<'_>)
     requires { HasRoom out.old (length (written S.Spelling.canon first (position_items position))) }
     ensures { Puts out.old (written S.Spelling.canon first (position_items position)) out.new }
@@ -65,6 +65,7 @@ fn put_label<S: FullSpelling>(label: Option<&[u8]>, out: &mut Output<'_>)
             false,
             &[
                 PRESENT,
+                // At most 32, as the records say: the cast is shown to fit.
                 Item::Number(Kind::Uint8, text.len() as u32),
                 Item::Text(text),
             ],
