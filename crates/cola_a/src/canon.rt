@@ -10,7 +10,7 @@ use telegram::item::Item;
 // How many digits a Real has.
 const REAL_DIGITS: usize = 8;
 
-// The capital hexadecimal digit of a number; std's `from_digit` writes small letters.
+// The capital hexadecimal digit of a number; std's `from_digit` writes small letters. A digit is shown to fit its cast.
 fn letter_of(d: u32) -> u8
     requires { d < 16 }
     ensures { result ≡ letter d }
@@ -68,6 +68,7 @@ fn put_digits(n: usize, value: u32, out: &mut Output<'_>)
     requires room { HasRoom out.old n }
     ensures { Puts out.old (hexadecimals n value) out.new }
 {
+    // No number has more digits, and nothing is allocated here.
     let mut digits = [0; 8];
     let digits = &mut digits[..n];
     write_digits(digits, value);
@@ -95,19 +96,11 @@ pub(crate) fn put_item(item: Item<'_>, out: &mut Output<'_>)
 }
 
 // How many letters an item has.
-fn letter_count(item: Item<'_>) -> usize
+pub(crate) fn letter_count(item: Item<'_>) -> usize
     ensures { result ≡ length (letters (value_of item.entry)) }
 {
     match item {
         Item::Number(_, _) | Item::Real(_) => digit_count(item),
         Item::Text(s) => s.len(),
     }
-}
-
-// How many bytes an item takes with its blank.
-pub(crate) fn item_size(item: Item<'_>) -> usize
-    requires { length (letters (value_of item)) ≤ 65536 }
-    ensures { result ≡ 1 + length (letters (value_of item.entry)) }
-{
-    1 + letter_count(item)
 }

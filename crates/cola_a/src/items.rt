@@ -30,10 +30,7 @@ pub enum Lead {
 fn takes_sign(want: Want) -> bool
     ensures { result ≡ signs want }
 {
-    match want {
-        Want::Number(_) => true,
-        Want::Real | Want::Text(_) => false,
-    }
+    matches!(want, Want::Number(_))
 }
 
 // How what is wanted begins, by its first byte.

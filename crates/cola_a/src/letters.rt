@@ -8,7 +8,7 @@ ghost use Rattle.cola_a.specs.Sounds.{text_sound, text_adjoining};
 ghost use Rattle.cola_a.specs.Backs.{text_written};
 ghost use Rattle.cola_a.specs.Wraps.{text_slim, text_parted, text_snug, text_reopens};
 
-use crate::canon::{item_size, put_item};
+use crate::canon::{letter_count, put_item};
 use crate::envelope::{open_text, put_envelope};
 use crate::items::item_of;
 use spelling::put::Output;
@@ -62,7 +62,7 @@ impl FullSpelling for Letters {
     ghost reopens = { text_reopens };
 
     fn size(_first: bool, item: Item<'_>) -> usize {
-        item_size(item)
+        1 + letter_count(item)
     }
 
     fn put(_first: bool, item: Item<'_>, out: &mut Output<'_>) {

@@ -110,24 +110,12 @@ pub(crate) fn put_blanked(item: Item<'_>, out: &mut Output<'_>)
 }
 
 // How many bytes an item takes with no blank before it.
-fn bare_size(item: Item<'_>) -> usize
+pub(crate) fn bare_size(item: Item<'_>) -> usize
     ensures { result ≡ length (octets (value_of item.entry)) }
 {
     match item {
         Item::Number(kind, _) => kind.width(),
         Item::Real(_) => 4,
         Item::Text(s) => s.len(),
-    }
-}
-
-// How many bytes an item takes, the first with a blank before it.
-pub(crate) fn item_size(first: bool, item: Item<'_>) -> usize
-    requires { length (canon_binary first (value_of item)) ≤ 65536 }
-    ensures { result ≡ length (canon_binary first (value_of item.entry)) }
-{
-    if first {
-        1 + bare_size(item)
-    } else {
-        bare_size(item)
     }
 }

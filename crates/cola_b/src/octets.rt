@@ -8,7 +8,7 @@ ghost use Rattle.cola_b.specs.Backs.{binary_written};
 ghost use Rattle.cola_b.specs.Wraps.{binary_slim, binary_parted, binary_snug, binary_reopens};
 
 use crate::envelope::{FRONT, put_envelope};
-use crate::items::{blanked_of, item_of, item_size, put_bare, put_blanked};
+use crate::items::{bare_size, blanked_of, item_of, put_bare, put_blanked};
 use spelling::put::Output;
 use spelling::terms::{Extent, FullSpelling, Spelling};
 use telegram::item::{Item, Want};
@@ -63,7 +63,8 @@ impl FullSpelling for Octets {
     ghost reopens = { binary_reopens };
 
     fn size(first: bool, item: Item<'_>) -> usize {
-        item_size(first, item)
+        // With its blank, which stands before the first alone.
+        usize::from(first) + bare_size(item)
     }
 
     fn put(first: bool, item: Item<'_>, out: &mut Output<'_>) {

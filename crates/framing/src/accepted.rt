@@ -10,6 +10,7 @@ use crate::items::Items;
 use layout::cursor::Cursor;
 use layout::records::Parts;
 use layout::source::Source;
+use spelling::text::tail;
 use telegram::item::{Item, Placed};
 use telegram::refusal::Refusal;
 use telegram::row::Row;
@@ -70,7 +71,7 @@ impl<'f, 'b, F: Framing> Accepted<'f, 'b, F> {
     pub fn body(&self) -> &'b [u8]
         ensures { result.now ≡ drop self.now.head.from self.now.head.text.now }
     {
-        self.text().get(self.head.from..).unwrap_or(&[])
+        tail(self.text(), self.head.from)
     }
 
     // The optional parts of scan data; none of them in any other telegram.

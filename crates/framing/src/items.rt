@@ -7,7 +7,7 @@ use crate::framing::{Framing, Meaning};
 use layout::cursor::Cursor;
 use telegram::item::{Item, Placed};
 
-// The items in a framing, from a cursor on, in an input up to its body's end. Their texts live as long as the input; those that `layout::source::Items` hands out, of any source, as long as the source is borrowed. Their texts are parts of that input, and serve for as long as it does.
+// The items in a framing, from a cursor on, in an input up to its body's end. Their texts live as long as the input; those that `layout::source::Items` hands out, of any source, as long as the source is borrowed.
 #[derive_where(Clone, Copy)]
 pub struct Items<'f, 'b, F> {
     pub(crate) framing: &'f F,

@@ -42,7 +42,7 @@ pub fn lettered(word: &[u8]) -> Option<Known>
     }
 }
 
-// The framing of a number: 0 is text, 1 is binary.
+// The framing of a number, by which C names it: 0 is text, 1 is binary.
 pub fn numbered(number: usize) -> Option<Known>
     ensures { result ≡ numbered number }
 {

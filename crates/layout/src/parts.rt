@@ -23,12 +23,7 @@ impl<'a> Parts<'a> {
     pub fn new() -> Parts<'a>
         ensures { result ≡ no_parts }
     {
-        Parts {
-            position: None,
-            name: None,
-            comment: None,
-            time: None,
-        }
+        Parts::default()
     }
 
     fn labelled(self, label: Label, text: Option<&'a [u8]>) -> Parts<'a>

@@ -1,6 +1,6 @@
 // The optional parts of scan data, as plain records.
 
-// Where the device stands: coordinates and rotations as Real patterns, the kind of rotation, and whether its name is sent.
+// Where the device stands: coordinates and rotations as Real patterns, the kind of rotation, and whether its name is sent. These two are kept as numbers, since every number of their kind is accepted.
 #[derive(Clone, Copy, Debug, Default, PartialEq, Eq)]
 pub struct Position {
     pub x: u32,
@@ -26,7 +26,7 @@ pub struct Time {
 }
 
 // Each part may be absent.
-#[derive(Clone, Copy)]
+#[derive(Clone, Copy, Debug, Default, PartialEq, Eq)]
 pub struct Parts<'a> {
     pub position: Option<Position>,
     pub name: Option<&'a [u8]>,

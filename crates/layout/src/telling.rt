@@ -5,7 +5,7 @@ ghost use Rattle.layout.specs.Source.{Within, Told};
 use crate::records::Parts;
 use crate::source::Source;
 
-// A telegram within the catalogue and the limits, and the records of its optional parts.
+// A telegram within the catalogue and the limits, and the records of its optional parts. That it is so, and that they are its own, is part of the type.
 #[derive(Drop)]
 pub struct Telling<'t, T: Source> {
     pub telegram: &'t T,

@@ -5,6 +5,7 @@ use Rattle.std.proofs.lemmas.Bool.{ltb-true, ltb-false}
 use Rattle.telegram.specs.declared.refusal.Fault.{Fault}
 use Rattle.telegram.specs.declared.item.Want.{Want}
 use Rattle.telegram.specs.declared.refusal.Reason.TheVariants.{Limit, Rest}
+use Rattle.telegram.specs.declared.refusal.Refusal.{Refusal}
 use Rattle.telegram.specs.declared.row.Row.{Row}
 use Rattle.layout.specs.declared.stage.Progress.{Progress}
 use Rattle.layout.specs.declared.cursor.Cursor.{Cursor}
@@ -16,7 +17,7 @@ use Rattle.layout.specs.Passing.{Begins}
 use Rattle.layout.proofs.Times.{falls, light, heavy}
 use Rattle.spelling.specs.Spell.{Spelt, found, faulty, Find, Fair}
 use Rattle.spelling.specs.Walk.{seen, halt, whole, Walk, stop, more, closed, walk, onward}
-use Rattle.spelling.specs.Check.{starting, over}
+use Rattle.spelling.specs.Check.{starting, over, FaultAt}
 
 module _ (find : Find) (n : ℕ) (first : Bool) (l : Layout) (r : ℕ) (bs : List ℕ) where
   pub turn_end : (t : ℕ) → wanted l ≡ None → walk find t n first l r bs ≡ closed n bs
@@ -87,6 +88,15 @@ module _ (find : Find) (t : List ℕ) (at : Cursor) where
     on_fault f s =
         turn_fault find (length t) at.first here room rest _ w f (omega (arith, heavy here w (sym e))) (sym e) s
         ∙ ap (λ x. stop (halt (fault_number f) x)) place
+
+    pub on_refusal : (e : Refusal) → FaultAt at.place (find at.first w rest) e → onward find t at ≡ stop (halt (reason_number e.reason) e.place)
+    on_refusal e h =
+        let go : (s : Spelt) → find at.first w rest ≡ s → FaultAt at.place s e → onward find t at ≡ stop (halt (reason_number e.reason) e.place) =
+        λ s. elim s as (λ s. find at.first w rest ≡ s → FaultAt at.place s e → onward find t at ≡ stop (halt (reason_number e.reason) e.place)) [
+          | found v r ↦ λ is h. absurd h
+          | faulty f ↦ λ is h. on_fault f is ∙ ap (λ n. stop (halt n at.place)) (sym h.0) ∙ ap (λ p. stop (halt (reason_number e.reason) p)) (sym h.1)
+        ] in
+        go (find at.first w rest) refl h
 
     pub on_unfit : (v : Value) (after : List ℕ) (m : ℕ) → find at.first w rest ≡ found v after → m ≡ number v → advance here room m ≡ None → onward find t at ≡ stop (halt (reason_number Limit) at.place)
     on_unfit v after m s is a =

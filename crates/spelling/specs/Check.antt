@@ -7,14 +7,23 @@ use Rattle.telegram.specs.declared.row.Row.{Row}
 use Rattle.layout.specs.declared.records.Parts.{Parts}
 use Rattle.telegram.specs.declared.refusal.Reason.TheVariants.{Rest}
 use Rattle.telegram.specs.declared.refusal.Refusal.{Refusal}
-use Rattle.telegram.specs.Refusal.{reason_number}
+use Rattle.telegram.specs.Refusal.{reason_number, fault_number}
 use Rattle.telegram.specs.Value.{want, number, value_of}
 use Rattle.layout.specs.Layout.{layout, limit, weight, wanted, advance, is_scan}
 use Rattle.layout.specs.Follow.{todo, stands, Fitting}
 use Rattle.layout.specs.Passing.{Goes, noted}
 use Rattle.layout.specs.Source.{values, seen_of, Tells}
-use Rattle.spelling.specs.Spell.{Find}
+use Rattle.spelling.specs.Spell.{Find, Spelt, found, faulty}
 use Rattle.spelling.specs.Walk.{Walk, Ending, whole, halt, stop, more, walk, onward}
+
+-- an item found at the start of bytes that stand at a place, and how many of them it takes; or the refusal of its fault there
+abbrev pub FaultAt : ℕ → Spelt → Refusal → Type 0
+FaultAt p (found v rest) e = ⊥
+FaultAt p (faulty f) e = (reason_number e.reason ≡ fault_number f) × (e.place ≡ p)
+
+abbrev pub Found : ℕ → List ℕ → Spelt → Result (Item × ℕ) Refusal → Type 0
+Found p bs s (Ok x) = (s ≡ found (value_of x.0) (drop x.1 bs)) × (x.1 ≤ length bs)
+Found p bs s (Err e) = FaultAt p s e
 
 -- an item was passed: the walk goes on behind it
 pub record Stepped (find : Find) (t : List ℕ) (at : Cursor) (item : Placed Item) (next : Cursor) : Type 0 where

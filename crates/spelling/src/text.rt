@@ -17,10 +17,7 @@ pub fn tail(bytes: &[u8], from: usize) -> &[u8]
 fn is_textual(b: u8) -> bool
     ensures { result ≡ textual b }
 {
-    match b {
-        0x20..=0x7e => true,
-        _ => false,
-    }
+    matches!(b, 0x20..=0x7e)
 }
 
 fn all_printable(bytes: &[u8]) -> bool

@@ -3,9 +3,8 @@ ghost use Rattle.std.specs.Prelude.{◌≡◌, ℕ, ◌≤◌, true, length, dro
 ghost use Rattle.layout.specs.Layout.{wanted};
 ghost use Rattle.layout.specs.Follow.{todo};
 ghost use Rattle.layout.specs.Source.{Pulled};
-ghost use Rattle.spelling.specs.Spell.{Finds};
 ghost use Rattle.spelling.specs.Walk.{left};
-ghost use Rattle.spelling.specs.Check.{Checks, Steps, Walks};
+ghost use Rattle.spelling.specs.Check.{Checks, Found, Steps, Walks};
 
 use crate::terms::Spelling;
 use crate::text::tail;
@@ -13,7 +12,7 @@ use layout::cursor::Cursor;
 use layout::records::Parts;
 use layout::stage::Progress;
 use telegram::item::{Item, Placed, Want};
-use telegram::refusal::{Fault, Reason, Refusal};
+use telegram::refusal::{Reason, Refusal};
 use telegram::row::Row;
 
 // The item that stands at a place, and how many bytes it takes.
@@ -22,13 +21,13 @@ fn found_at<'b, S: Spelling>(
     want: Want,
     text: &'b [u8],
     place: usize,
-) -> Result<(Item<'b>, usize), Fault>
-    ensures { Finds (drop place text.now) (S.Spelling.finds first want (drop place text.now)) result }
+) -> Result<(Item<'b>, usize), Refusal>
+    ensures { Found place (drop place text.now) (S.Spelling.finds first want (drop place text.now)) result }
 {
-    S::find(first, want, tail(text, place))
+    S::find(first, want, tail(text, place)).map_err(|fault| Reason::from(fault).at(place))
 }
 
-// The item at a cursor, and the cursor behind it.
+// The item at a cursor, and the cursor behind it. A refusal tells a place of the whole input, so the input goes along with the place here and in what calls this, with the condition that the place lies within.
 fn step<'b, S: Spelling>(
     text: &'b [u8],
     at: Cursor,
@@ -39,10 +38,7 @@ fn step<'b, S: Spelling>(
     ensures { Steps S.Spelling.finds text.now at result }
 {
     let place = at.place;
-    let (value, taken) = match found_at::<S>(at.first, want, text, place) {
-        Ok(found) => found,
-        Err(fault) => return Err(Reason::from(fault).at(place)),
-    };
+    let (value, taken) = found_at::<S>(at.first, want, text, place)?;
     let progress = at
         .progress
         .next(value.number())

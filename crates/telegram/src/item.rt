@@ -21,7 +21,7 @@ pub enum Item<'a> {
 }
 
 // A value with the place of its first byte in the whole input, and the place behind its last.
-#[derive(Clone, Copy)]
+#[derive(Clone, Copy, Debug, PartialEq, Eq)]
 pub struct Placed<T> {
     pub value: T,
     pub place: usize,
