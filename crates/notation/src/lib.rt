@@ -30,6 +30,7 @@ pub fn decode(heap: Global, text: &[u8]) -> Result<Vec<u8>, AllocError>
     ensures { IfOk result (λ v. v.items ≡ decoded text.now) }
 {
     let mut bytes = Vec::new(heap);
+    // Two states, since a digit may wait for its second through a closing bracket.
     let mut inside = false;
     let mut high = None;
     for character in text {

@@ -54,7 +54,7 @@ fn put_telegram<F: Framing>(
 }
 
 // Adds the line of a refusal.
-fn put_refusal(out: &mut Vec<u8>, why: Refusal) -> Result<(), AllocError>
+pub fn put_refusal(out: &mut Vec<u8>, why: Refusal) -> Result<(), AllocError>
     ensures { OnOk result (out.new.items ≡ out.old.items ++ refusal (reason_number why.reason) why.place) }
 {
     let line = format!(in *out.allocator(); "{why}\n")?;
@@ -78,4 +78,29 @@ pub fn sheet(heap: Global, bytes: &[u8]) -> Result<Vec<u8>, AllocError>
     ensures { IfOk result (λ v. v.items ≡ sheet_of bytes.now) }
 {
     sheet_in(heap, &told(bytes), bytes)
+}
+
+#[cfg(test)]
+mod tests {
+    use super::*;
+    use std::test::Fail;
+    use telegram::refusal::Reason;
+
+    // The command and the name of a row.
+    #[test]
+    fn puts_a_title(rt: HostRuntime) -> Result<(), Fail> {
+        let mut out = Vec::new(rt.alloc());
+        put_title(&mut out, Row::SmnRun)?;
+        assert_eq!(rt; out.as_slice(), b"sMN Run\n".as_slice());
+        Ok(())
+    }
+
+    // A reason's number, and a place.
+    #[test]
+    fn puts_a_refusal(rt: HostRuntime) -> Result<(), Fail> {
+        let mut out = Vec::new(rt.alloc());
+        put_refusal(&mut out, Reason::Limit.at(61))?;
+        assert_eq!(rt; out.as_slice(), b"refused 7 61\n".as_slice());
+        Ok(())
+    }
 }

@@ -3,7 +3,7 @@ use framing::accepted::accept;
 use framing::framing::Framing;
 use layout::source::{Items, Source};
 use page::item::{item_name, put_value};
-use page::sheet::put_title;
+use page::sheet::{put_refusal, put_title};
 use std::alloc::AllocError;
 use telegram::item::{Item, Placed};
 
@@ -35,9 +35,6 @@ pub fn put_answer<F: Framing>(
 ) -> Result<(), AllocError> {
     match accept(framing, bytes) {
         Ok(telegram) => put_telegram(out, &telegram),
-        Err(refusal) => {
-            let line = format!(in *out.allocator(); "{refusal}\n")?;
-            out.extend_from_slice(line.as_bytes())
-        }
+        Err(refusal) => put_refusal(out, refusal),
     }
 }
