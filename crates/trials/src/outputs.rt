@@ -21,69 +21,66 @@ fn output(heap: Global, begin: &[u8], room: usize) -> Result<Vec<u8>, AllocError
     Ok(bytes)
 }
 
-// Whether respelling into an output of so many bytes answers so, and leaves these bytes and behind them what stood there.
-fn leaves<F: Framing, G: FullFraming>(
+// A way from one framing to another, with the heap that its outputs lie in.
+#[derive_where(Clone, Copy)]
+pub struct Way<'f, F, G> {
     heap: Global,
-    from: &F,
-    to: &G,
-    bytes: &[u8],
-    room: usize,
-    said: Verdict,
-    written: &[u8],
-) -> Result<bool, AllocError> {
-    let wanted = output(heap, written, room)?;
-    let mut out = output(heap, b"", room)?;
-    Ok(respell(from, to, bytes, out.as_mut_slice()) == said && out == wanted)
+    from: &'f F,
+    to: &'f G,
 }
 
-// Whether bytes become others: in an output of exactly their length, in one that is longer by three, and not in one that is shorter by one.
-pub fn becomes<F: Framing, G: FullFraming>(
-    heap: Global,
-    from: &F,
-    to: &G,
-    bytes: &[u8],
-    wanted: &[u8],
-) -> Result<bool, AllocError> {
-    let length = wanted.len();
-    let exact = leaves(heap, from, to, bytes, length, Ok(length), wanted)?;
-    let longer = length.saturating_add(3);
-    let ample = leaves(heap, from, to, bytes, longer, Ok(length), wanted)?;
-    let shorter = length.saturating_sub(1);
-    let asked = Err(Reason::Room.at(length));
-    let scarce = leaves(heap, from, to, bytes, shorter, asked, b"")?;
-    Ok(exact && ample && scarce)
-}
+impl<'f, F: Framing, G: FullFraming> Way<'f, F, G> {
+    pub fn new(heap: Global, from: &'f F, to: &'f G) -> Self {
+        Way { heap, from, to }
+    }
 
-// Whether an input that a text stands for becomes another.
-pub fn turns<F: Framing, G: FullFraming>(
-    heap: Global,
-    from: &F,
-    to: &G,
-    input: &str,
-    wanted: &str,
-) -> Result<bool, AllocError> {
-    let bytes = decode(heap, input.as_bytes())?;
-    let written = decode(heap, wanted.as_bytes())?;
-    becomes(heap, from, to, bytes.as_slice(), written.as_slice())
-}
+    // Whether respelling into an output of so many bytes answers so, and leaves these bytes and behind them what stood there.
+    fn leaves(
+        self,
+        bytes: &[u8],
+        room: usize,
+        said: Verdict,
+        written: &[u8],
+    ) -> Result<bool, AllocError> {
+        let wanted = output(self.heap, written, room)?;
+        let mut out = output(self.heap, b"", room)?;
+        let answer = respell(self.from, self.to, bytes, out.as_mut_slice());
+        Ok(answer == said && out == wanted)
+    }
 
-// Whether the input of each case is refused as the case says, and leaves an output as it was, however short it is.
-pub fn are_refused<F: Framing, G: FullFraming>(
-    heap: Global,
-    from: &F,
-    to: &G,
-    cases: &[Case],
-) -> Result<bool, AllocError> {
-    for (input, reason, place) in cases {
-        let input = decode(heap, input.as_bytes())?;
-        let said = Err(reason.at(*place));
-        for room in [80, 0] {
-            if !leaves(heap, from, to, input.as_slice(), room, said, b"")? {
-                return Ok(false);
+    // Whether bytes become others: in an output of exactly their length, in one that is longer by three, and not in one that is shorter by one.
+    pub fn becomes(self, bytes: &[u8], wanted: &[u8]) -> Result<bool, AllocError> {
+        let length = wanted.len();
+        let longer = length.saturating_add(3);
+        let shorter = length.saturating_sub(1);
+        let asked = Err(Reason::Room.at(length));
+        Ok(
+            self.leaves(bytes, length, Ok(length), wanted)?
+                && self.leaves(bytes, longer, Ok(length), wanted)?
+                && self.leaves(bytes, shorter, asked, b"")?,
+        )
+    }
+
+    // Whether an input that a text stands for becomes another.
+    pub fn turns(self, input: &str, wanted: &str) -> Result<bool, AllocError> {
+        let bytes = decode(self.heap, input.as_bytes())?;
+        let written = decode(self.heap, wanted.as_bytes())?;
+        self.becomes(bytes.as_slice(), written.as_slice())
+    }
+
+    // Whether the input of each case is refused as the case says, and leaves an output as it was, however short it is.
+    pub fn are_refused(self, cases: &[Case]) -> Result<bool, AllocError> {
+        for (input, reason, place) in cases {
+            let input = decode(self.heap, input.as_bytes())?;
+            let said = Err(reason.at(*place));
+            for room in [80, 0] {
+                if !self.leaves(input.as_slice(), room, said, b"")? {
+                    return Ok(false);
+                }
             }
         }
+        Ok(true)
     }
-    Ok(true)
 }
 
 // The canonical spellings of one telegram: in text, in binary, and in binary behind a length alone.
@@ -94,34 +91,34 @@ pub struct Spellings {
     pub prefixed: Vec<u8>,
 }
 
-// The parts of a text: the canonical body of a telegram, or a piece of it, in text and in binary; then the telegram as two inputs.
-const LETTERS: usize = 0;
-
-const OCTETS: usize = 1;
-
-const INPUT_IN_TEXT: usize = 2;
-
-const INPUT_IN_BINARY: usize = 3;
+// The parts of a text, by their numbers: the canonical body of a telegram, or a piece of it, in text and in binary; then the telegram as two inputs.
+#[derive(Clone, Copy)]
+enum Part {
+    Letters = 0,
+    Octets = 1,
+    InputInText = 2,
+    InputInBinary = 3,
+}
 
 // The bytes of one part of a text. A `#` divides the parts.
-fn part(heap: Global, text: &str, number: usize) -> Result<Vec<u8>, AllocError> {
-    let part = text.split('#').nth(number).unwrap_or("");
-    decode(heap, part.as_bytes())
+fn bytes_of(heap: Global, text: &str, part: Part) -> Result<Vec<u8>, AllocError> {
+    let piece = text.split('#').nth(part as usize).unwrap_or("");
+    decode(heap, piece.as_bytes())
 }
 
 // One part of each of some texts, one behind the other.
-fn joined(heap: Global, texts: &[&str], number: usize) -> Result<Vec<u8>, AllocError> {
+fn joined(heap: Global, texts: &[&str], part: Part) -> Result<Vec<u8>, AllocError> {
     let mut bytes = Vec::new(heap);
     for text in texts {
-        bytes.extend_from_slice(part(heap, text, number)?.as_slice())?;
+        bytes.extend_from_slice(bytes_of(heap, text, part)?.as_slice())?;
     }
     Ok(bytes)
 }
 
 // The spellings of a telegram whose body is these pieces one behind the other, each in text and, behind a `#`, in binary.
 pub fn spell(heap: Global, pieces: &[&str]) -> Result<Spellings, AllocError> {
-    let letters = joined(heap, pieces, LETTERS)?;
-    let octets = joined(heap, pieces, OCTETS)?;
+    let letters = joined(heap, pieces, Part::Letters)?;
+    let octets = joined(heap, pieces, Part::Octets)?;
     Ok(Spellings {
         text: COLA_A.telegram(heap, &[letters.as_slice()])?,
         binary: COLA_B.telegram(heap, &[octets.as_slice()])?,
@@ -138,9 +135,9 @@ impl Spellings {
         bytes: &[u8],
     ) -> Result<bool, AllocError> {
         Ok(
-            becomes(heap, from, &COLA_A, bytes, self.text.as_slice())?
-                && becomes(heap, from, &COLA_B, bytes, self.binary.as_slice())?
-                && becomes(heap, from, &PREFIXED, bytes, self.prefixed.as_slice())?,
+            Way::new(heap, from, &COLA_A).becomes(bytes, self.text.as_slice())?
+                && Way::new(heap, from, &COLA_B).becomes(bytes, self.binary.as_slice())?
+                && Way::new(heap, from, &PREFIXED).becomes(bytes, self.prefixed.as_slice())?,
         )
     }
 
@@ -162,8 +159,8 @@ pub fn settles<F: Framing, G: Framing>(
     case: &str,
 ) -> Result<bool, AllocError> {
     let telegram = spell(heap, &[case])?;
-    let letters = part(heap, case, INPUT_IN_TEXT)?;
-    let octets = part(heap, case, INPUT_IN_BINARY)?;
+    let letters = bytes_of(heap, case, Part::InputInText)?;
+    let octets = bytes_of(heap, case, Part::InputInBinary)?;
     Ok(
         telegram.come_of(heap, text, letters.as_slice())?
             && telegram.come_of(heap, binary, octets.as_slice())?,

@@ -70,17 +70,17 @@ fn pairs(rt: HostRuntime) -> Result<(), Fail> {
 // A scan with signs and leading zeros, and the same scan in binary, where the framings are chosen.
 #[test]
 fn full_scan(rt: HostRuntime) -> Result<(), Fail> {
-    assert!(rt; turns(rt.alloc(), &COLA_A, &COLA_A, ODD, FULL)?);
-    assert!(rt; turns(rt.alloc(), &CHOSE_TEXT, &CHOSE_BINARY, ODD, BINARY)?);
-    assert!(rt; turns(rt.alloc(), &COLA_B, &CHOSE_TEXT, BINARY, FULL)?);
+    assert!(rt; Way::new(rt.alloc(), &COLA_A, &COLA_A).turns(ODD, FULL)?);
+    assert!(rt; Way::new(rt.alloc(), &CHOSE_TEXT, &CHOSE_BINARY).turns(ODD, BINARY)?);
+    assert!(rt; Way::new(rt.alloc(), &COLA_B, &CHOSE_TEXT).turns(BINARY, FULL)?);
     Ok(())
 }
 
 // A refusal of the input is passed on as it is, whatever the output.
 #[test]
 fn refusals(rt: HostRuntime) -> Result<(), Fail> {
-    assert!(rt; are_refused(rt.alloc(), &COLA_A, &COLA_B, &IN_TEXT)?);
-    assert!(rt; are_refused(rt.alloc(), &COLA_B, &PREFIXED, &IN_BINARY)?);
-    assert!(rt; are_refused(rt.alloc(), &PREFIXED, &COLA_A, &IN_PREFIXED)?);
+    assert!(rt; Way::new(rt.alloc(), &COLA_A, &COLA_B).are_refused(&IN_TEXT)?);
+    assert!(rt; Way::new(rt.alloc(), &COLA_B, &PREFIXED).are_refused(&IN_BINARY)?);
+    assert!(rt; Way::new(rt.alloc(), &PREFIXED, &COLA_A).are_refused(&IN_PREFIXED)?);
     Ok(())
 }
