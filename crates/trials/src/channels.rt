@@ -5,7 +5,9 @@ use cola_b::read::COLA_B;
 use framing::accepted::accept;
 use framing::framing::FullFraming;
 use std::test::Fail;
+use telegram::item::Placed;
 use views::find::channel;
+use views::view::Front;
 
 // Two channels of 16 bits, the second of them empty, and one of 8 bits; in text, with signs, and in binary.
 const TEXT: &[u8] =
@@ -73,17 +75,24 @@ fn tells<F: FullFraming>(
     let Some(mut view) = channel(&telegram, number) else {
         return false;
     };
-    let content = view.content();
-    let front = view.front;
     let amount = told.values.len();
-    let is_told = content.value == told.content
-        && content.place == place
-        && content.end == place.wrapping_add(5)
-        && front.scale == told.scale
-        && front.offset == told.offset
+    let content = Placed {
+        value: told.content,
+        place,
+        end: place.wrapping_add(5),
+    };
+    let front = Front {
+        content,
+        scale: told.scale,
+        offset: told.offset,
+        start: told.start.cast_unsigned(),
+        step: told.step,
+        amount: view.front.amount,
+    };
+    let is_told = view.front == front
+        && view.content() == content
         && view.start() == told.start
-        && front.step == told.step
-        && usize::from(front.amount) == amount
+        && usize::from(view.front.amount) == amount
         && view.angle(amount).is_none();
     if !is_told {
         return false;

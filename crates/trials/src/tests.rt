@@ -33,27 +33,19 @@ const TIME: Time = Time {
     microsecond: 875_000,
 };
 
-// Whether the optional parts are those of the full scan.
-fn are_full(parts: Parts<'_>) -> bool {
-    match parts {
-        Parts {
-            position: Some(position),
-            name: Some(name),
-            comment: Some(comment),
-            time: Some(time),
-        } => position == POSITION
-            && name == b"Belt 7 north".as_slice()
-            && comment == b"ok, 2 of 3".as_slice()
-            && time == TIME,
-        _ => false,
-    }
-}
+// The optional parts of the full scan.
+const PARTS: Parts<'static> = Parts {
+    position: Some(POSITION),
+    name: Some(b"Belt 7 north"),
+    comment: Some(b"ok, 2 of 3"),
+    time: Some(TIME),
+};
 
 // Whether bytes are accepted, with the optional parts of the full scan.
 fn is_full<F: Framing>(heap: Global, framing: &F, input: &str) -> Result<bool, AllocError> {
     let bytes = decode(heap, input.as_bytes())?;
     let telegram = accept(framing, bytes.as_slice());
-    Ok(telegram.is_ok_and(|telegram| are_full(telegram.parts())))
+    Ok(telegram.is_ok_and(|telegram| telegram.parts() == PARTS))
 }
 
 #[test]
