@@ -8,7 +8,6 @@ use std::env::FillError;
 use std::io::{Read, Write};
 use std::process::ExitCode;
 use std::rt::Env;
-use telegram::refusal::Refusal;
 
 const USAGE: &str = "usage: respell A|B < TELEGRAM";
 
@@ -25,8 +24,8 @@ fn target(rt: &impl Env) -> Option<Known> {
     }
 }
 
-// Reads a telegram, and writes it respelt.
-fn run(rt: &HostRuntime, to: &Known) -> anyhow::Result<Result<(), Refusal>> {
+// Reads a telegram, and writes it respelt, or else its refusal.
+fn run(rt: &HostRuntime, to: &Known) -> anyhow::Result<ExitCode> {
     let heap = rt.alloc();
     let mut bytes = Vec::new(heap);
     rt.stdin().take(INPUT).read_to_end(&mut bytes)?;
@@ -37,9 +36,12 @@ fn run(rt: &HostRuntime, to: &Known) -> anyhow::Result<Result<(), Refusal>> {
             // Writing `&out[..n]` in its place was tried, and its proof did not close.
             out.truncate(n);
             rt.stdout().write_all(out.as_slice())?;
-            Ok(Ok(()))
+            Ok(ExitCode::SUCCESS)
         }
-        Err(refusal) => Ok(Err(refusal)),
+        Err(refusal) => {
+            eprintln!(rt; "{refusal}")?;
+            Ok(ExitCode::FAILURE)
+        }
     }
 }
 
@@ -48,11 +50,5 @@ fn main(rt: HostRuntime) -> anyhow::Result<ExitCode> {
         eprintln!(rt; "{USAGE}")?;
         return Ok(ExitCode::FAILURE);
     };
-    match run(&rt, &to)? {
-        Ok(()) => Ok(ExitCode::SUCCESS),
-        Err(refusal) => {
-            eprintln!(rt; "{refusal}")?;
-            Ok(ExitCode::FAILURE)
-        }
-    }
+    run(&rt, &to)
 }
