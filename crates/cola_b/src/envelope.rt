@@ -64,7 +64,7 @@ fn body_in(out: &[u8], to: usize) -> &[u8]
     &out[FRONT..to]
 }
 
-// Puts the envelope around the body that stands behind the front, up to a place.
+// Puts the envelope around the body that stands behind the front, up to a place; its conditions are those of the terms.
 pub(crate) fn put_envelope(out: &mut [u8], to: usize)
     requires front { 8 ≤ to }
     requires room { to + 1 ≤ length out.old }

@@ -45,7 +45,7 @@ fn row_of(body: &[u8]) -> Option<(Row, usize)>
     Some((row, 4 + name.len()))
 }
 
-// Where the head's span ends: where that is allowed, a blank behind a head that has no items belongs to it.
+// Where the head's span ends, by its place in the whole input, as in a step of the walk: where that is allowed, a blank behind a head that has no items belongs to it.
 fn after_blank<S: Spelling>(text: &[u8], row: Row, at: usize) -> usize
     requires { at ≤ length text.now }
     ensures same { drop result text.now ≡ after_head S.Spelling.spare (layout row) (drop at text.now) }
@@ -59,7 +59,7 @@ fn after_blank<S: Spelling>(text: &[u8], row: Row, at: usize) -> usize
     }
 }
 
-// The telegram in a text that ends where its body does.
+// The telegram in a text that ends where its body does. Its place is one of the whole input, as in a step of the walk.
 fn read_body<'b, S: Spelling>(text: &'b [u8], from: usize) -> Result<Head<'b>, Refusal>
     requires { from ≤ length text.now }
     ensures { Holds S.Spelling.finds text.now (headed S.Spelling.finds S.Spelling.spare text.now from (head (drop from text.now))) result }

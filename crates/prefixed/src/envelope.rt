@@ -27,7 +27,7 @@ pub fn open(input: &[u8]) -> Result<Extent, Refusal>
     })
 }
 
-// Puts the length before the body that ends at a place.
+// Puts the length before the body that ends at a place; its conditions are those of the terms.
 pub(crate) fn put_length(out: &mut [u8], to: usize)
     requires front { 2 ≤ to }
     requires room { to ≤ length out.old }

@@ -11,7 +11,7 @@ use std::rt::Env;
 
 const USAGE: &str = "usage: respell A|B < TELEGRAM";
 
-// One byte more than is allowed, so that an input that is too long shows as such. A constant has no `From`.
+// One byte more than is allowed, so that an input that is too long shows as such. A constant has no `From`. `sheet` reads its input by the same lines; a crate for three of them would be no plainer.
 const INPUT: u64 = LONGEST as u64 + 1;
 
 // The framing that the only argument names, if there is just one and it names one. Words are asked for one by one, into a buffer of the length that counts: std's list of them is refused whole where one of them, the program's own name too, is no UTF-8.

@@ -8,7 +8,7 @@ use std::io::{Read, Write};
 use std::process::ExitCode;
 use std::rt::Env;
 
-// One byte more than is allowed, so that an input that is too long shows as such. A constant has no `From`.
+// One byte more than is allowed, so that an input that is too long shows as such. A constant has no `From`. `respell` reads its input by the same lines; a crate for three of them would be no plainer.
 const INPUT: u64 = LONGEST as u64 + 1;
 
 // Whether any word stands behind the program's name. It is asked for alone: std's list of words is refused whole where one of them, the program's own name too, is no UTF-8.

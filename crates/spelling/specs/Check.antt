@@ -16,11 +16,12 @@ use Rattle.layout.specs.Source.{values, seen_of, Tells}
 use Rattle.spelling.specs.Spell.{Find, Spelt, found, faulty}
 use Rattle.spelling.specs.Walk.{Walk, Ending, whole, halt, stop, more, walk, onward}
 
--- an item found at the start of bytes that stand at a place, and how many of them it takes; or the refusal of its fault there
+-- the refusal of an item's fault at a place
 abbrev pub FaultAt : ℕ → Spelt → Refusal → Type 0
 FaultAt p (found v rest) e = ⊥
 FaultAt p (faulty f) e = (reason_number e.reason ≡ fault_number f) × (e.place ≡ p)
 
+-- the item found at the start of bytes that stand at a place, and how many of them it takes; or the refusal of its fault there
 abbrev pub Found : ℕ → List ℕ → Spelt → Result (Item × ℕ) Refusal → Type 0
 Found p bs s (Ok x) = (s ≡ found (value_of x.0) (drop x.1 bs)) × (x.1 ≤ length bs)
 Found p bs s (Err e) = FaultAt p s e

@@ -27,7 +27,7 @@ fn found_at<'b, S: Spelling>(
     S::find(first, want, tail(text, place)).map_err(|fault| Reason::from(fault).at(place))
 }
 
-// The item at a cursor, and the cursor behind it. A refusal tells a place of the whole input, so the input goes along with the place here and in what calls this, with the condition that the place lies within.
+// The item at a cursor, and the cursor behind it. A refusal tells a place of the whole input, so the input goes along with the place; that the place lies within keeps the sum below in bounds.
 fn step<'b, S: Spelling>(
     text: &'b [u8],
     at: Cursor,

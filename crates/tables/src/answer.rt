@@ -7,7 +7,7 @@ use page::sheet::{put_refusal, put_title};
 use std::alloc::AllocError;
 use telegram::item::{Item, Placed};
 
-// An item's kind, place, end and canonical letters.
+// An item's kind, place, end and canonical letters. Page's line has no end; one text for both would take what stands in the middle as a text first, and be no shorter.
 fn put_item(out: &mut Vec<u8>, item: Placed<Item<'_>>) -> Result<(), AllocError> {
     let Placed { value, place, end } = item;
     let name = item_name(value);

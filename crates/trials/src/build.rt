@@ -10,8 +10,10 @@ pub trait Build {
     // Pieces one behind the other, as the body of a telegram.
     fn telegram(&self, heap: Global, pieces: &[&[u8]]) -> Result<Vec<u8>, AllocError>;
 
-    // A number of 16 bits, as an item behind others.
-    fn number(&self, heap: Global, n: u16) -> Result<Vec<u8>, AllocError>;
+    // A number of 16 bits, as an item behind others: in two bytes, where the framing says nothing else.
+    fn number(&self, heap: Global, n: u16) -> Result<Vec<u8>, AllocError> {
+        n.to_be_bytes().to_vec(heap)
+    }
 }
 
 impl Build for ColaA {
@@ -33,10 +35,6 @@ impl Build for ColaB {
         let front = b"\x02\x02\x02\x02".as_slice();
         [front, &length[4..], body.as_slice(), &[sum]].concat(heap)
     }
-
-    fn number(&self, heap: Global, n: u16) -> Result<Vec<u8>, AllocError> {
-        n.to_be_bytes().to_vec(heap)
-    }
 }
 
 impl Build for Framed<Prefixed> {
@@ -44,10 +42,6 @@ impl Build for Framed<Prefixed> {
         let body = pieces.concat(heap)?;
         let length = body.len().to_be_bytes();
         [&length[6..], body.as_slice()].concat(heap)
-    }
-
-    fn number(&self, heap: Global, n: u16) -> Result<Vec<u8>, AllocError> {
-        n.to_be_bytes().to_vec(heap)
     }
 }
 

@@ -87,6 +87,7 @@ fn tells<F: FullFraming>(
         offset: told.offset,
         start: told.start.cast_unsigned(),
         step: told.step,
+        // Checked by itself below.
         amount: view.front.amount,
     };
     let is_told = view.front == front
