@@ -64,6 +64,15 @@ fn body_in(out: &[u8], to: usize) -> &[u8]
     &out[FRONT..to]
 }
 
+// How long a body is, as its envelope states it.
+fn stated_length(body: &[u8]) -> u32
+    requires { length body.now ≤ 65536 }
+    ensures { result ≡ length body.now }
+{
+    // Shown to fit: a body is no longer than an input may be.
+    body.len() as u32
+}
+
 // Puts the envelope around the body that stands behind the front, up to a place; its conditions are those of the terms.
 pub(crate) fn put_envelope(out: &mut [u8], to: usize)
     requires front { 8 ≤ to }
@@ -72,8 +81,7 @@ pub(crate) fn put_envelope(out: &mut [u8], to: usize)
     ensures { out.new ≡ enclosed wrap_binary out.old to }
 {
     let body = body_in(out, to);
-    // Shown to fit: a body is no longer than an input may be.
-    let length = body.len() as u32;
+    let length = stated_length(body);
     let sum = checksum(body);
     out[..HEADER.len()].copy_from_slice(&HEADER);
     out[HEADER.len()..FRONT].copy_from_slice(&length.to_be_bytes());

@@ -32,6 +32,11 @@ abbrev pub respelt : Outcome → (Telegram → List ℕ) → List ℕ → Writte
 respelt (accepted g) spells out = filled (spells (telegram g)) out
 respelt (refused n p) spells out = record { answer = declined n p; output = out }
 
+-- how long what is written will be
+abbrev pub measured : Outcome → (Telegram → List ℕ) → Answer
+measured (accepted g) spells = wrote (length (spells (telegram g)))
+measured (refused n p) spells = declined n p
+
 -- One telegram has one spelling: of a framing that reads and spells so.
 pub record OneSpelling (reads : List ℕ → Outcome) (spells : Telegram → List ℕ) : Type 0 where
   -- spellings are equal exactly when the fields are

@@ -1,11 +1,23 @@
 // Respelling: a telegram read in one framing, and written canonically in another.
 ghost use Rattle.std.specs.Prelude.{◌≡◌};
-ghost use Rattle.framing.specs.Respell.{answer_of, respelt, OneSpelling};
+ghost use Rattle.framing.specs.Respell.{answer_of, measured, respelt, OneSpelling};
 
 use crate::accepted::accept;
 use crate::framing::{Framing, FullFraming};
 use layout::telling::Telling;
 use telegram::refusal::Refusal;
+
+// Answers how long the output has to be: the length of the telegram's canonical spelling in the target.
+pub fn respelt_length<F: Framing, G: FullFraming>(
+    from: &F,
+    to: &G,
+    bytes: &[u8],
+) -> Result<usize, Refusal>
+    ensures { answer_of result ≡ measured (F.Meaning.reads from.now bytes.now) (G.FullFraming.spells to.now) }
+{
+    let telegram = accept(from, bytes)?;
+    Ok(to.length(&telegram))
+}
 
 // Answers the length of what was written at the output's start. After a refusal the output is as it was.
 pub fn respell<F: Framing, G: FullFraming>(

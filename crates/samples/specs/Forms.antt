@@ -1,8 +1,8 @@
 -- The canonical spellings of the sample telegrams and of some more, and what respelling makes of them. Assumes nothing.
 use Rattle.std.specs.Prelude.{◌≡◌, ℕ, List, [], ◌∷◌, ◌++◌, replicate, Some, None, codes, Option}
 use Rattle.std.specs.List.{AllByRecursion}
-use Rattle.telegram.specs.declared.kind.Kind.TheVariants.{Uint16, Uint32, Int8}
-use Rattle.telegram.specs.declared.row.Row.TheVariants.{SmnSetAccessMode, SwaParticle, SraDeviceIdent}
+use Rattle.telegram.specs.declared.kind.Kind.TheVariants.{Uint8, Uint16, Uint32, Int8}
+use Rattle.telegram.specs.declared.row.Row.TheVariants.{SraScanData, SmnSetAccessMode, SwaParticle, SraDeviceIdent}
 use Rattle.telegram.specs.Value.{num, text as words}
 use Rattle.layout.specs.Source.{Telegram}
 use Rattle.spelling.specs.Write.{spelled}
@@ -11,6 +11,7 @@ use Rattle.framing.specs.Respell.{Answer, wrote, declined, Written, respelt}
 use Rattle.cola_a.specs.Canon.{canon_text}
 use Rattle.cola_a.specs.Envelope.{wrap_text}
 use Rattle.cola_a.specs.Read.{reads_text}
+use Rattle.cola_b.specs.Read.{reads_binary}
 use Rattle.cola_b.specs.Canon.{canon_binary}
 use Rattle.cola_b.specs.Envelope.{wrap_binary}
 use Rattle.samples.specs.Samples.{Sample, text, binary, ComesTo, framed, at, reading, run_text, ran_text, login_zero_text, login_text, particle_decimal_text, particle_zero_text, particle_text, particle_most_text, particle_beyond_text, particle_two_text, scan_sent_text, scan_asked_text, nothing_text, run_binary, ran_binary, login_binary, particle_binary, done_blank_binary, done_binary, scan_sent_binary}
@@ -81,8 +82,11 @@ ident_text = text (codes "sRA DeviceIdent +6 LMS 10 0000 ") (accepted (reading S
 abbrev pub ident_binary : Sample
 ident_binary = binary (framed 26 0x7F (codes "sRA DeviceIdent " ++ (0 ∷ 6 ∷ (codes "LMS 10" ++ (0 ∷ 0 ∷ []))))) (accepted (reading SraDeviceIdent 8 23 34 (at (num Uint16 6) 23 26 ∷ at (words (codes "LMS 10")) 26 32 ∷ at (num Uint16 0) 32 34 ∷ at (words []) 34 34 ∷ [])))
 
+abbrev pub scan_switched_text : Sample
+scan_switched_text = text (codes "sRA LMDscandata 0 1 9F14CE 0 0 5 3 A B 0 0 6 0 0 9C4 21C 0 0 0 0 0 0 0 0") (accepted (reading SraScanData 1 16 73 (at (num Uint16 0) 16 18 ∷ at (num Uint16 1) 18 20 ∷ at (num Uint32 10425550) 20 27 ∷ at (num Uint8 0) 27 29 ∷ at (num Uint8 0) 29 31 ∷ at (num Uint16 5) 31 33 ∷ at (num Uint16 3) 33 35 ∷ at (num Uint32 10) 35 37 ∷ at (num Uint32 11) 37 39 ∷ at (num Uint8 0) 39 41 ∷ at (num Uint8 0) 41 43 ∷ at (num Uint8 6) 43 45 ∷ at (num Uint8 0) 45 47 ∷ at (num Uint16 0) 47 49 ∷ at (num Uint32 2500) 49 53 ∷ at (num Uint32 540) 53 57 ∷ at (num Uint16 0) 57 59 ∷ at (num Uint16 0) 59 61 ∷ at (num Uint16 0) 61 63 ∷ at (num Uint16 0) 63 65 ∷ at (num Uint16 0) 65 67 ∷ at (num Uint16 0) 67 69 ∷ at (num Uint16 0) 69 71 ∷ at (num Uint16 0) 71 73 ∷ [])))
+
 abbrev pub further : List Sample
-further = login_signed_text ∷ done_text ∷ ident_text ∷ ident_binary ∷ []
+further = login_signed_text ∷ done_text ∷ ident_text ∷ ident_binary ∷ scan_switched_text ∷ []
 
 -- what a sample comes to
 abbrev pub outcome : Sample → Outcome
@@ -128,18 +132,25 @@ formings =
     ∷ formed scan_sent_binary scan_sent
     ∷ []
 
--- a body in text, respelt into an output of so many bytes FF
+-- what is read, respelt into an output of so many bytes FF
 pub record Respelling : Type 0 where
-  pub letters : List ℕ
+  pub source : Outcome
   pub spells : Telegram → List ℕ
   pub room : ℕ
   pub is : Written
 
 abbrev pub RespeltSo : Respelling → Type 0
-RespeltSo r = respelt (reads_text (between r.letters)) r.spells (replicate r.room 0xFF) ≡ r.is
+RespeltSo r = respelt r.source r.spells (replicate r.room 0xFF) ≡ r.is
 
+abbrev pub respelling_of : Outcome → (Telegram → List ℕ) → ℕ → Answer → List ℕ → Respelling
+respelling_of o s n a w = record { source = o; spells = s; room = n; is = record { answer = a; output = w } }
+
+-- of a body in text, and of an input in binary
 abbrev pub respelling : List ℕ → (Telegram → List ℕ) → ℕ → Answer → List ℕ → Respelling
-respelling l s n a w = record { letters = l; spells = s; room = n; is = record { answer = a; output = w } }
+respelling l = respelling_of (reads_text (between l))
+
+abbrev pub respelling_binary : List ℕ → (Telegram → List ℕ) → ℕ → Answer → List ℕ → Respelling
+respelling_binary bs = respelling_of (reads_binary bs)
 
 abbrev pub respellings : List Respelling
 respellings =
@@ -147,6 +158,8 @@ respellings =
     ∷ respelling (codes "sWN LFPparticle 1 +500") spells_binary 28 (wrote 28) (framed 19 0xD0 (codes "sWN LFPparticle " ++ (1 ∷ 1 ∷ 0xF4 ∷ [])))
     ∷ respelling (codes "sWN LFPparticle 1 +500") spells_binary 27 (declined 9 28) (replicate 27 0xFF)
     ∷ respelling (codes "sWN LFPparticle 2 +500") spells_binary 28 (declined 6 16) (replicate 28 0xFF)
+    ∷ respelling_binary (framed 16 0x2B (codes "sWA LFPparticle ")) spells_binary 26 (wrote 24) (framed 15 0x0B (codes "sWA LFPparticle") ++ replicate 2 0xFF)
+    ∷ respelling_binary (framed 19 0xD0 (codes "sWN LFPparticle " ++ (1 ∷ 1 ∷ 0xF4 ∷ []))) spells_text 24 (wrote 23) (between (codes "sWN LFPparticle 1 1F4") ++ replicate 1 0xFF)
     ∷ []
 
 -- what writing makes of the samples and of those beyond their list

@@ -2,12 +2,12 @@
 #![tactic(auto)]
 
 ghost use Rattle.std.specs.Prelude.{◌≡◌, length};
-ghost use Rattle.samples.specs.Samples.{SamplesStand};
+ghost use Rattle.samples.specs.Samples.{samples, SamplesStand};
 ghost use Rattle.samples.specs.Forms.{formings, FormsStand};
 
 // How many sample telegrams there are; each comes to what the list says of it.
 pub fn samples_stand() -> usize
-    ensures count { result ≡ 20 }
+    ensures count { result ≡ length samples }
     ensures stand { SamplesStand }
 {
     20
