@@ -15,8 +15,7 @@ pub fn respelt_length<F: Framing, G: FullFraming>(
 ) -> Result<usize, Refusal>
     ensures { answer_of result ≡ measured (F.Meaning.reads from.now bytes.now) (G.FullFraming.spells to.now) }
 {
-    let telegram = accept(from, bytes)?;
-    Ok(to.length(&telegram))
+    accept(from, bytes).map(|telegram| to.length(&telegram))
 }
 
 // Answers the length of what was written at the output's start. After a refusal the output is as it was.
