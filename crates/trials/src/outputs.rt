@@ -5,7 +5,7 @@ use crate::refused::Case;
 use cola_a::read::COLA_A;
 use cola_b::read::COLA_B;
 use framing::framing::{Framing, FullFraming};
-use framing::respell::respell;
+use framing::respell::{respell, respelt_length};
 use notation::decode;
 use prefixed::prefixed::PREFIXED;
 use std::alloc::{AllocError, Global};
@@ -48,14 +48,15 @@ impl<'f, F: Framing, G: FullFraming> Way<'f, F, G> {
         Ok(answer == said && out == wanted)
     }
 
-    // Whether bytes become others: in an output of exactly their length, in one that is longer by three, and not in one that is shorter by one.
+    // Whether bytes become others, whose length is told before: in an output of exactly their length, in one that is longer by three, and not in one that is shorter by one.
     pub fn becomes(self, bytes: &[u8], wanted: &[u8]) -> Result<bool, AllocError> {
         let length = wanted.len();
         let longer = length.saturating_add(3);
         let shorter = length.saturating_sub(1);
         let asked = Err(Reason::Room.at(length));
         Ok(
-            self.leaves(bytes, length, Ok(length), wanted)?
+            respelt_length(self.from, self.to, bytes) == Ok(length)
+                && self.leaves(bytes, length, Ok(length), wanted)?
                 && self.leaves(bytes, longer, Ok(length), wanted)?
                 && self.leaves(bytes, shorter, asked, b"")?,
         )

@@ -234,3 +234,27 @@ fn long_inputs(rt: HostRuntime) -> Result<(), Fail> {
     assert_eq!(rt; longest(rt.alloc(), 1)?, size);
     Ok(())
 }
+
+// Whether bytes are accepted, with a head and a body that stand so.
+fn stands<F: Framing>(framing: &F, bytes: &[u8], place: usize, end: usize, body: &[u8]) -> bool {
+    accept(framing, bytes).is_ok_and(|telegram| {
+        let head = telegram.head();
+        head.place == place && head.end == end && telegram.body() == body
+    })
+}
+
+// The spans of head and body; in binary a blank behind a head that has no items belongs to the head.
+#[test]
+fn spans(rt: HostRuntime) {
+    assert!(rt; stands(&COLA_A, b"\x02sMN Run\x03", 1, 8, b"sMN Run"));
+    assert!(rt; stands(&COLA_A, b"\x02sAN Run 1\x03", 1, 8, b"sAN Run 1"));
+    assert!(rt;
+        stands(
+            &COLA_B,
+            b"\x02\x02\x02\x02\0\0\0\x08sMN Run \x39",
+            8,
+            16,
+            b"sMN Run ",
+        )
+    );
+}
