@@ -7,7 +7,8 @@ ghost use Rattle.samples.specs.Forms.{formings, FormsStand};
 
 // How many sample telegrams there are; each comes to what the list says of it.
 pub fn samples_stand() -> usize
-    ensures count { result ≡ length samples }
+    ensures count { result ≡ 20 }
+    ensures all { result ≡ length samples }
     ensures stand { SamplesStand }
 {
     20

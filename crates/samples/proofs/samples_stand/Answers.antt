@@ -9,4 +9,4 @@ unfolding walk rows
 stand = ((refl, (refl, (refl, (refl, (refl, (refl, (refl, (refl, (refl, (refl, (refl, (refl, (refl, (refl, (refl, (refl, (refl, (refl, (refl, (refl, tt)))))))))))))))))))), (refl, (refl, (refl, (refl, tt)))))
 
 pub returns : goal.returns
-returns c = record { count = refl; stand = stand }
+returns c = record { count = refl; all = refl; stand = stand }
