@@ -41,7 +41,7 @@ pub fn put_value(out: &mut Vec<u8>, item: Item<'_>) -> Result<(), AllocError>
 {
     match item {
         Item::Number(_, value) | Item::Real(value) => {
-            // No number has more digits. `{value:X}` in place of the buffer was tried, and its proof did not close.
+            // No number has more digits. With `{value:X}` in place of the buffer the answer stays open.
             let mut digits = [b'0'; 8];
             let digits = &mut digits[..digit_count(item)];
             write_digits(digits, value);
