@@ -57,6 +57,9 @@ misused() { # WORD..
 }
 
 (cd crates/viewer && rt lib) >"$work/log" 2>&1 || { cat "$work/log"; echo 'viewer.sh: FAILED: the library is not built'; exit 1; }
+# What a program without a C library has to bring along.
+needed=$(nm -u crates/viewer/out/libviewer.a | awk '$1 == "U" { print $2 }' | sort -u)
+[ "$needed" = memmove ] || fail "names that the library needs: $needed"
 compile crates/viewer/c/viewer.c viewer && compile tests/calls.c calls || { echo 'viewer.sh: FAILED: the programs are not compiled'; exit 1; }
 
 head='\002\002\002\002\000\000\000'

@@ -2,6 +2,7 @@
 ghost use Rattle.std.specs.Prelude.{◌≡◌, ℕ, ◌+◌, ◌<◌, ◌≤◌, List, ◌∷◌, length};
 ghost use Rattle.telegram.specs.Value.{value_of};
 ghost use Rattle.spelling.specs.Output.{HasRoom, Puts};
+ghost use Rattle.spelling.specs.Write.{Put};
 ghost use Rattle.cola_a.specs.Canon.{letter, hex_digits, hexadecimals, letters, size};
 
 use spelling::put::Output;
@@ -62,17 +63,21 @@ pub fn write_digits(digits: &mut [u8], value: u32)
     }
 }
 
-// Writes the n lowest digits of `value`.
+// Writes the n lowest digits of `value` at a place.
+fn digits_to(out: &mut [u8], at: usize, n: usize, value: u32)
+    requires { at + n ≤ length out.old }
+    ensures { Put out.old at (hexadecimals n value) out.new (at + n) }
+{
+    write_digits(&mut out[at..at + n], value);
+}
+
+// Writes the n lowest digits of `value`: where they belong, so that none is copied.
 fn put_digits(n: usize, value: u32, out: &mut Output<'_>)
-    requires few { n ≤ 8 }
-    requires room { HasRoom out.old n }
+    requires { HasRoom out.old n }
     ensures { Puts out.old (hexadecimals n value) out.new }
 {
-    // No number has more digits, and nothing is allocated here.
-    let mut digits = [0; 8];
-    let digits = &mut digits[..n];
-    write_digits(digits, value);
-    out.put(digits);
+    digits_to(out.bytes, out.at, n, value);
+    out.at += n;
 }
 
 // Writes the letters of an item.

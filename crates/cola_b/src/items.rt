@@ -79,13 +79,17 @@ pub(crate) fn blanked_of<'b>(want: Want, bytes: &'b [u8]) -> Result<(Item<'b>, u
     behind_blank(bytes, |behind| item_of(want, behind))
 }
 
-// Writes the lowest bytes of a number, the highest of them first.
-fn put_number(width: usize, v: u32, out: &mut Output<'_>)
-    requires few { width ≤ 4 }
-    requires room { HasRoom out.old width }
-    ensures { Puts out.old (fixed 256 width v) out.new }
+// Writes a number in the width of its kind, the highest byte first. Each width is a match arm of its own: a part of the four bytes, of a length known only when it runs, would be copied by a call of the C library.
+fn put_number(kind: Kind, v: u32, out: &mut Output<'_>)
+    requires { HasRoom out.old (width kind) }
+    ensures { Puts out.old (fixed 256 (width kind) v) out.new }
 {
-    out.put(&v.to_be_bytes()[4 - width..]);
+    let [a, b, c, d] = v.to_be_bytes();
+    match kind {
+        Kind::Bool | Kind::Uint8 | Kind::Int8 => out.put(&[d]),
+        Kind::Uint16 => out.put(&[c, d]),
+        Kind::Uint32 | Kind::Int32 => out.put(&[a, b, c, d]),
+    }
 }
 
 // Writes an item with no blank before it.
@@ -94,8 +98,8 @@ pub(crate) fn put_bare(item: Item<'_>, out: &mut Output<'_>)
     ensures { Puts out.old (octets (value_of item.entry)) out.new }
 {
     match item {
-        Item::Number(kind, v) => put_number(kind.width(), v, out),
-        Item::Real(v) => put_number(4, v, out),
+        Item::Number(kind, v) => put_number(kind, v, out),
+        Item::Real(v) => put_number(Kind::Uint32, v, out),
         Item::Text(s) => out.put(s),
     }
 }

@@ -29,7 +29,7 @@ module _ (canon : Canon) (t : Telegram) where
   body_long = ap length (sym body_joined) ∙ length-append headed (written canon true t.items)
 
 -- the items before the optional parts are as many as there are without them
-split : (canon : Canon) (l : Layout) (vs : List Value) (p : Parts) (n : ℕ) → EndsIn l vs p → n ≡ length vs - length (parts_items p) → written canon true vs ≡ written canon true (take n vs) ++ written canon (eqb n 0) (parts_items p)
+pub split : (canon : Canon) (l : Layout) (vs : List Value) (p : Parts) (n : ℕ) → EndsIn l vs p → n ≡ length vs - length (parts_items p) → written canon true vs ≡ written canon true (take n vs) ++ written canon (eqb n 0) (parts_items p)
 split canon l vs p n e is =
     let k : length e.lead ≡ n = omega (arith, ap length e.all, length-append e.lead (parts_items p)) in
     let front : take n vs ≡ e.lead = ap (take n) e.all ∙ take_at e.lead (parts_items p) n k in
@@ -38,7 +38,7 @@ split canon l vs p n e is =
     ∙ ap (λ x. written canon true x ++ written canon (eqb (length e.lead) 0) (parts_items p)) (sym front)
     ∙ ap (λ x. written canon true (take n vs) ++ written canon (eqb x 0) (parts_items p)) k
 
-split_few : (l : Layout) (vs : List Value) (p : Parts) → EndsIn l vs p → length (parts_items p) ≤ length vs
+pub split_few : (l : Layout) (vs : List Value) (p : Parts) → EndsIn l vs p → length (parts_items p) ≤ length vs
 split_few l vs p e = omega (arith, ap length e.all, length-append e.lead (parts_items p))
 
 -- Every item of a telegram is good; so are the lengths of its texts.
@@ -75,7 +75,7 @@ pub told_labelled : (t : Telegram) (p : Parts) → ∥ Within t ∥₁ → ∥ T
 told_labelled t p h e =
     ∥∥₁_elim (∥∥₁_map₂ h e (λ w x. tells_labelled (is_scan t.row) (layout t.row) t.items p (fits_good (layout t.row) limit t.items w) x)) (×_prop (sized_prop p.name) (sized_prop p.comment)) (λ l. l)
 
-scan_ends : (t : Telegram) (p : Parts) (row : Row) → row ≡ t.row → true ≡ is_scan row → Told t p → EndsIn (layout t.row) t.items p
+pub scan_ends : (t : Telegram) (p : Parts) (row : Row) → row ≡ t.row → true ≡ is_scan row → Told t p → EndsIn (layout t.row) t.items p
 scan_ends t p row e s h = subst (λ b. Tells b (layout t.row) t.items p) (sym (s ∙ ap is_scan e)) h
 
 -- what is told of scan data, as far as its writing goes

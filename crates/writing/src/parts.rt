@@ -65,7 +65,7 @@ fn put_label<S: FullSpelling>(label: Option<&[u8]>, out: &mut Output<'_>)
             false,
             &[
                 PRESENT,
-                // At most 32, as the records say: the cast is shown to fit.
+                // Below 256, as the condition says: the cast is shown to fit.
                 Item::Number(Kind::Uint8, text.len() as u32),
                 Item::Text(text),
             ],
